@@ -23,16 +23,13 @@ fault_stops text line in_inventory.UnknownService is Q memory fault = fault _ (i
 fault_stops text line in_inventory.UnknownContact is Q memory fault = fault _ (in_inventory.UnknownContact, is (λ e. absurd (cc)), refl)
 fault_stops text line in_inventory.TooMany is Q memory fault = fault _ (in_inventory.TooMany, is (λ e. absurd (cc)), refl)
 
--- a file that was not opened is why not all are, and why there is no inventory in it
+-- a file that was not opened is why not all are
 module _ (path : Bor (List ℕ)) (P Q : Type 0) (s : FilesStop) (is : (P × (s ≡ OpenPassing path)) ⊎ (Q × (s ≡ Open path))) where
   pub unopened_stops : (paths : List (List ℕ)) → Contains paths path.now → StopsOpening paths s
   unopened_stops paths h = ⊎_elim (λ w. subst (StopsOpening paths) (sym w.1) h) (λ w. subst (StopsOpening paths) (sym w.1) h) is
 
-  pub unopened_inventory : {F : Type 0} (tells : F → Option (List ℕ)) → StopsInventory tells path.now s
-  unopened_inventory tells = ⊎_elim (λ w. subst (StopsInventory tells path.now) (sym w.1) refl) (λ w. subst (StopsInventory tells path.now) (sym w.1) refl) is
-
 -- so it is why there is none in a file
-pub stopped_inventory : {F : Type 0} (tells : F → Option (List ℕ)) (path : List ℕ) (file : F) (text : List ℕ) (line : ℕ) (cause : Cause)
-    → IfSome (tells file) (λ told. text ≡ told) → (cause ≢ in_inventory.Memory → inventory text ≡ Err (line, cause)) → StopsInventory tells path (Other (inventory_stop line cause))
-stopped_inventory tells path file text line cause told is =
-    fault_stops text line cause is (λ s. StopsInventory tells path (Other s)) tt (λ number why. (text, (file, told), why))
+pub stopped_inventory : {F : Type 0} (remaining : F → Option (List ℕ)) (path : List ℕ) (file : F) (text : List ℕ) (line : ℕ) (cause : Cause)
+    → IfSome (remaining file) (λ told. text ≡ told) → (cause ≢ in_inventory.Memory → inventory text ≡ Err (line, cause)) → StopsInventory remaining path (Other (inventory_stop line cause))
+stopped_inventory remaining path file text line cause told is =
+    fault_stops text line cause is (λ s. StopsInventory remaining path (Other s)) tt (λ number why. (text, (file, told), why))

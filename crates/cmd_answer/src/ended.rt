@@ -10,17 +10,17 @@ use crate::stop::{FilesStop, Stop};
 use crate::writing::{write_pieces, write_text};
 use std::io::{self, Write};
 
-/// The end of a call (profile). `status` is the program's exit status. `told` says whether the error stream took the
+/// The end of a call (profile). `status` is the program's exit status. `printed` says whether the error stream took the
 /// whole line of a stop; it is true where there is no such line.
 ///
 /// See the example of [`stopped`].
 #[derive(Clone, Copy, Debug, PartialEq, Eq)]
 pub struct Ended {
     pub status: u8,
-    pub told: bool,
+    pub printed: bool,
 }
 
-/// Appends the line of a stop to the error stream and nothing else, and returns the end of the call. Where `told` is
+/// Appends the line of a stop to the error stream and nothing else, and returns the end of the call. Where `printed` is
 /// false, the stream has only a prefix of the line. Takes no memory.
 ///
 /// ```
@@ -29,35 +29,35 @@ pub struct Ended {
 /// assert_eq!(rt; errors.as_slice(), b"gateway: feeds\n".as_slice());
 /// let wanted = Ended {
 ///     status: 2,
-///     told: true,
+///     printed: true,
 /// };
 /// assert_eq!(rt; ended, wanted);
 /// ```
 pub fn stopped<E: Write>(stop: FilesStop<'_>, errors: &mut E) -> Ended
     ensures status { result.status ≡ files_stop_status stop.entry }
-    ensures line { result.told ≡ true → Appends (E.contents errors.old) (E.contents errors.new) (files_stop_line stop.entry) }
-    ensures part { result.told ≡ false → AppendsPart (E.contents errors.old) (E.contents errors.new) (files_stop_line stop.entry) }
+    ensures line { result.printed ≡ true → Appends (E.contents errors.old) (E.contents errors.new) (files_stop_line stop.entry) }
+    ensures part { result.printed ≡ false → AppendsPart (E.contents errors.old) (E.contents errors.new) (files_stop_line stop.entry) }
 {
-    let told = stop.tell(errors).is_ok();
+    let printed = stop.print(errors).is_ok();
     Ended {
         status: stop.status(),
-        told,
+        printed,
     }
 }
 
 /// Appends the line of [`Stop::Usage`] and then the parts of `usage` to the error stream. After an error the stream has
 /// only a prefix of that text.
-fn tell_misuse<E: Write>(usage: &[&[u8]], errors: &mut E) -> io::Result<()>
-    ensures told { OnOk result (Appends (E.contents errors.old) (E.contents errors.new) (misuse_text (map (λ p. p.now) usage.now))) }
+fn print_misuse<E: Write>(usage: &[&[u8]], errors: &mut E) -> io::Result<()>
+    ensures whole { OnOk result (Appends (E.contents errors.old) (E.contents errors.new) (misuse_text (map (λ p. p.now) usage.now))) }
     ensures part { OnErr result (AppendsPart (E.contents errors.old) (E.contents errors.new) (misuse_text (map (λ p. p.now) usage.now))) }
 {
-    Stop::Usage.tell(errors)?;
+    Stop::Usage.print(errors)?;
     write_pieces(errors, usage)?;
     Ok(())
 }
 
 /// Appends the line of [`Stop::Usage`] and then the parts of `usage` to the error stream and nothing else, and returns
-/// the end of the call. Where `told` is false, the stream has only a prefix of that text. Takes no memory.
+/// the end of the call. Where `printed` is false, the stream has only a prefix of that text. Takes no memory.
 ///
 /// ```
 /// let mut errors = Vec::new(alloc);
@@ -70,13 +70,13 @@ fn tell_misuse<E: Write>(usage: &[&[u8]], errors: &mut E) -> io::Result<()>
 /// ```
 pub fn misused<E: Write>(usage: &[&[u8]], errors: &mut E) -> Ended
     ensures status { result.status ≡ stop_status Usage }
-    ensures text { result.told ≡ true → Appends (E.contents errors.old) (E.contents errors.new) (misuse_text (map (λ p. p.now) usage.now)) }
-    ensures part { result.told ≡ false → AppendsPart (E.contents errors.old) (E.contents errors.new) (misuse_text (map (λ p. p.now) usage.now)) }
+    ensures text { result.printed ≡ true → Appends (E.contents errors.old) (E.contents errors.new) (misuse_text (map (λ p. p.now) usage.now)) }
+    ensures part { result.printed ≡ false → AppendsPart (E.contents errors.old) (E.contents errors.new) (misuse_text (map (λ p. p.now) usage.now)) }
 {
-    let told = tell_misuse(usage, errors).is_ok();
+    let printed = print_misuse(usage, errors).is_ok();
     Ended {
         status: Stop::Usage.status(),
-        told,
+        printed,
     }
 }
 

@@ -74,7 +74,7 @@ const PIECE: usize = 4_096;
 /// assert_eq!(rt; fault, InputFault::Failed);
 /// ```
 pub fn read_all<R: Read>(alloc: Global, input: &mut R, reads: u32) -> Result<Vec<u8>, InputFault>
-    ensures told { IfOk result (λ bytes. IfSome (R.remaining input.old) (λ told. bytes.items ≡ told)) }
+    ensures read { IfOk result (λ bytes. IfSome (R.remaining input.old) (λ text. bytes.items ≡ text)) }
     // The last read returned none.
     ensures bound { IfOk result (λ bytes. length bytes.items + PIECE ≤ reads * PIECE) }
 {

@@ -5,7 +5,7 @@ ghost use Rattle.std.specs.Io.KnownBytes.{Appends};
 ghost use Rattle.cmd_answer.specs.StateStops.{word_text, state_line, state_stop_line, state_status};
 ghost use Rattle.cmd_answer.specs.Written.{AppendsPart};
 
-use crate::stop::tell_line;
+use crate::stop::print_line;
 use crate::writing::write_pieces;
 use std::io::{self, Write};
 
@@ -14,7 +14,7 @@ use std::io::{self, Write};
 /// ```
 /// let mut errors = Vec::new(alloc);
 /// let stop = Stop::State(StateStop::AtStart(StateWord::InUse));
-/// assert!(rt; stop.tell(&mut errors).is_ok());
+/// assert!(rt; stop.print(&mut errors).is_ok());
 /// assert_eq!(rt; errors.as_slice(), b"gateway: state in use\n".as_slice());
 /// assert_eq!(rt; stop.status(), 2);
 /// ```
@@ -55,7 +55,7 @@ pub enum StateWord {
 /// ```
 /// let mut errors = Vec::new(alloc);
 /// let stop = Stop::State(StateStop::JournalLine { line: 3, cause: 8 });
-/// assert!(rt; stop.tell(&mut errors).is_ok());
+/// assert!(rt; stop.print(&mut errors).is_ok());
 /// assert_eq!(rt;
 ///     errors.as_slice(),
 ///     b"gateway: state journal line 3: 8\n".as_slice()
@@ -101,8 +101,8 @@ fn word_of(word: StateWord) -> &'static [u8]
 
 /// Appends the line `gateway: state WORDS` to the error stream. After an error the stream has only a prefix of the
 /// line.
-fn tell_word<E: Write>(errors: &mut E, word: StateWord) -> io::Result<()>
-    ensures told { OnOk result (Appends (E.contents errors.old) (E.contents errors.new) (state_line word)) }
+fn print_word<E: Write>(errors: &mut E, word: StateWord) -> io::Result<()>
+    ensures whole { OnOk result (Appends (E.contents errors.old) (E.contents errors.new) (state_line word)) }
     ensures part { OnErr result (AppendsPart (E.contents errors.old) (E.contents errors.new) (state_line word)) }
 {
     write_pieces(errors, &[b"gateway: state ", word_of(word), b"\n"])
@@ -124,22 +124,22 @@ impl StateStop {
 
     /// Appends the line `gateway: state ..` of the stop to the error stream, and nothing else. After an error the
     /// stream has only a prefix of the line.
-    pub fn tell<E: Write>(self, errors: &mut E) -> io::Result<()>
-        ensures told { OnOk result (Appends (E.contents errors.old) (E.contents errors.new) (state_stop_line self)) }
+    pub fn print<E: Write>(self, errors: &mut E) -> io::Result<()>
+        ensures whole { OnOk result (Appends (E.contents errors.old) (E.contents errors.new) (state_stop_line self)) }
         ensures part { OnErr result (AppendsPart (E.contents errors.old) (E.contents errors.new) (state_stop_line self)) }
     {
         match self {
-            StateStop::AtStart(word) | StateStop::Passing(word) => tell_word(errors, word),
+            StateStop::AtStart(word) | StateStop::Passing(word) => print_word(errors, word),
             StateStop::StateLine { line, cause } => {
-                tell_line(errors, b"gateway: state line ", line, cause)
+                print_line(errors, b"gateway: state line ", line, cause)
             }
             StateStop::InventoryLine { line, cause } => {
-                tell_line(errors, b"gateway: state inventory line ", line, cause)
+                print_line(errors, b"gateway: state inventory line ", line, cause)
             }
             StateStop::JournalLine { line, cause } => {
-                tell_line(errors, b"gateway: state journal line ", line, cause)
+                print_line(errors, b"gateway: state journal line ", line, cause)
             }
-            StateStop::Later(word) => tell_word(errors, word),
+            StateStop::Later(word) => print_word(errors, word),
         }
     }
 }

@@ -21,7 +21,7 @@ use std::io::{self, Write};
 ///
 /// ```
 /// let mut errors = Vec::new(alloc);
-/// assert!(rt; Stop::Feeds.tell(&mut errors).is_ok());
+/// assert!(rt; Stop::Feeds.print(&mut errors).is_ok());
 /// assert_eq!(rt; errors.as_slice(), b"gateway: feeds\n".as_slice());
 /// assert_eq!(rt; Stop::Feeds.status(), 2);
 /// ```
@@ -122,13 +122,13 @@ impl From<EngineFault> for Stop {
 
 /// Appends the line for a faulty line of a text to the error stream: the words `begins`, then `line` and `cause` as
 /// numbers. After an error the stream has only a prefix of the line.
-pub(crate) fn tell_line<E: Write>(
+pub(crate) fn print_line<E: Write>(
     errors: &mut E,
     begins: &[u8],
     line: u64,
     cause: u8,
 ) -> io::Result<()>
-    ensures told { OnOk result (Appends (E.contents errors.old) (E.contents errors.new) (fault_text begins.now line cause)) }
+    ensures whole { OnOk result (Appends (E.contents errors.old) (E.contents errors.new) (fault_text begins.now line cause)) }
     ensures part { OnErr result (AppendsPart (E.contents errors.old) (E.contents errors.new) (fault_text begins.now line cause)) }
 {
     let mut at = Buffer::new();
@@ -140,8 +140,8 @@ pub(crate) fn tell_line<E: Write>(
 
 /// Appends the line for a run that failed to the error stream: the number of the cause, and its sender. After an error
 /// the stream has only a prefix of the line.
-fn tell_fault<E: Write>(errors: &mut E, cause: u8, sender: u16) -> io::Result<()>
-    ensures told { OnOk result (Appends (E.contents errors.old) (E.contents errors.new) (run_fault_text cause sender)) }
+fn print_fault<E: Write>(errors: &mut E, cause: u8, sender: u16) -> io::Result<()>
+    ensures whole { OnOk result (Appends (E.contents errors.old) (E.contents errors.new) (run_fault_text cause sender)) }
     ensures part { OnErr result (AppendsPart (E.contents errors.old) (E.contents errors.new) (run_fault_text cause sender)) }
 {
     let mut why = Buffer::new();
@@ -172,8 +172,8 @@ impl Stop {
 
     /// Appends the line of the stop to the error stream, and nothing else. Takes no memory. After an error the stream
     /// has only a prefix of the line.
-    pub fn tell<E: Write>(self, errors: &mut E) -> io::Result<()>
-        ensures told { OnOk result (Appends (E.contents errors.old) (E.contents errors.new) (stop_line self)) }
+    pub fn print<E: Write>(self, errors: &mut E) -> io::Result<()>
+        ensures whole { OnOk result (Appends (E.contents errors.old) (E.contents errors.new) (stop_line self)) }
         ensures part { OnErr result (AppendsPart (E.contents errors.old) (E.contents errors.new) (stop_line self)) }
     {
         match self {
@@ -182,23 +182,23 @@ impl Stop {
             Stop::Feeds => write_text(errors, b"gateway: feeds\n"),
             Stop::FeedTwice => write_text(errors, b"gateway: feed twice\n"),
             Stop::Inventory { line, cause } => {
-                tell_line(errors, b"gateway: inventory line ", line, cause)
+                print_line(errors, b"gateway: inventory line ", line, cause)
             }
             Stop::Journal { line, cause } => {
-                tell_line(errors, b"gateway: journal line ", line, cause)
+                print_line(errors, b"gateway: journal line ", line, cause)
             }
-            Stop::Fault { cause, sender } => tell_fault(errors, cause, sender),
+            Stop::Fault { cause, sender } => print_fault(errors, cause, sender),
             Stop::Memory => write_text(errors, b"gateway: memory\n"),
             Stop::Output => write_text(errors, b"gateway: output\n"),
-            Stop::State(stop) => stop.tell(errors),
+            Stop::State(stop) => stop.print(errors),
         }
     }
 }
 
 /// Appends the line on a file that could not be opened to the error stream. After an error the stream has only a prefix
 /// of the line.
-fn tell_open<E: Write>(errors: &mut E, path: &str) -> io::Result<()>
-    ensures told { OnOk result (Appends (E.contents errors.old) (E.contents errors.new) (open_line path.now)) }
+fn print_open<E: Write>(errors: &mut E, path: &str) -> io::Result<()>
+    ensures whole { OnOk result (Appends (E.contents errors.old) (E.contents errors.new) (open_line path.now)) }
     ensures part { OnErr result (AppendsPart (E.contents errors.old) (E.contents errors.new) (open_line path.now)) }
 {
     write_pieces(errors, &[b"gateway: open ", path.as_bytes(), b"\n"])
@@ -209,7 +209,7 @@ fn tell_open<E: Write>(errors: &mut E, path: &str) -> io::Result<()>
 /// ```
 /// let mut errors = Vec::new(alloc);
 /// let stop = FilesStop::Open("checks");
-/// assert!(rt; stop.tell(&mut errors).is_ok());
+/// assert!(rt; stop.print(&mut errors).is_ok());
 /// assert_eq!(rt; errors.as_slice(), b"gateway: open checks\n".as_slice());
 /// assert_eq!(rt; stop.status(), 2);
 /// ```
@@ -239,14 +239,14 @@ impl FilesStop<'_> {
 
     /// Appends the line of the stop to the error stream, for a file with its path as the call has it, and nothing else.
     /// Takes no memory. After an error the stream has only a prefix of the line.
-    pub fn tell<E: Write>(&self, errors: &mut E) -> io::Result<()>
-        ensures told { OnOk result (Appends (E.contents errors.old) (E.contents errors.new) (files_stop_line self.now)) }
+    pub fn print<E: Write>(&self, errors: &mut E) -> io::Result<()>
+        ensures whole { OnOk result (Appends (E.contents errors.old) (E.contents errors.new) (files_stop_line self.now)) }
         ensures part { OnErr result (AppendsPart (E.contents errors.old) (E.contents errors.new) (files_stop_line self.now)) }
     {
         match self {
-            FilesStop::Open(path) => tell_open(errors, path),
-            FilesStop::OpenPassing(path) => tell_open(errors, path),
-            FilesStop::Other(stop) => stop.tell(errors),
+            FilesStop::Open(path) => print_open(errors, path),
+            FilesStop::OpenPassing(path) => print_open(errors, path),
+            FilesStop::Other(stop) => stop.print(errors),
         }
     }
 }

@@ -7,7 +7,7 @@ use Rattle.atomic_table.proofs.Lists.{at_set, at_snoc}
 use Rattle.mon_inventory.specs.Configuration.{Configuration}
 use Rattle.cmd_types.specs.declared.entry.Entry.{Entry}
 use Rattle.cmd_dispatch.specs.declared.board_rule.SeatView.{SeatView}
-use Rattle.cmd_dispatch.specs.Told.{BeginsWith}
+use Rattle.cmd_dispatch.specs.Delivered.{BeginsWith}
 use Rattle.cmd_dispatch.specs.BoardViews.{ArePrefixes, Shows, writer_view, reader_view, spent, keeping, Sat, Published, Looked, Checked}
 use Rattle.mon_engine.specs.declared.figures.Figures.{Figures}
 use Rattle.mon_engine.specs.Figures.{figures, NothingIsCountedAtFirst}
@@ -158,7 +158,7 @@ joins inventory seat v other w may reads s r at apart there =
     each published seen kept zero front e = subst (λ l. BeginsWith published l) (some-injective w.seen front e) seen
     each published seen kept (suc i) front e = kept i front e
 
--- what the first kept list of a checked seat tells
+-- what the first kept list of a checked seat says
 pub gathered : (v w : SeatView) (m n : Sat) (slots : List (ℕ × ℕ)) → m ≡ (keeping v w, slots) → Checked m n → BeginsWith v.published w.seen
 gathered v w m n slots e c = (subst (λ (x : Sat). ArePrefixes x.0.kept x.0.published) e c.1) 0 w.seen refl
 

@@ -1,4 +1,4 @@
--- Why a run has no report, and what is known by it of what the log was handed.
+-- Why a run has no report, and what is known by it of the entries passed to the log.
 use Rattle.std.proofs.Common.{◌≡◌, ◌≢◌, ◌==◌, ◌<◌, ◌≤◌, ◌+◌, ℕ, Bool, true, false, List, [], length, map, get_or, refl, sym, ap, ◌∙◌, subst, arith, append-nil, Option, None, Some}
 use Rattle.std.specs.List.{sum_by}
 use Rattle.std.proofs.lemmas.List.{get_or-map}
@@ -8,8 +8,8 @@ use Rattle.cmd_run.specs.declared.ending.SenderReport.{SenderReport}
 use Rattle.cmd_run.specs.declared.fault.RunCause.{RunCause}
 use Rattle.cmd_run.specs.declared.fault.RunCause.TheVariants as cause
 use Rattle.cmd_run.specs.Endings.{is_complete}
-use Rattle.cmd_dispatch.specs.Told.{BeginsWith}
-use Rattle.cmd_dispatch.specs.Dispatches.{MayFail, Stands, handed}
+use Rattle.cmd_dispatch.specs.Delivered.{BeginsWith}
+use Rattle.cmd_dispatch.specs.Dispatches.{MayFail, Stands, logged}
 use Rattle.cmd_dispatch.specs.Runs.{IsEndedBy, fault_known, AreComplete, IsSpawned, IsCause}
 use Rattle.cmd_dispatch.proofs.SenderLemmas.{stopped_for_memory}
 
@@ -36,7 +36,7 @@ pub none_before : (first fault : Option RunCause) → Stands first fault → fau
 none_before None fault stands none = refl
 none_before (Some c) fault stands none = absurd (let h : Some c ≡ None = sym stands ∙ none in cc)
 
--- a sender is told to have stopped only where nothing failed
+-- a sender is reported to have stopped only where nothing failed
 pub free_if_stopped : (all : Bool) (count j : ℕ) (first fault : Option RunCause) (reports : List SenderReport) → IsSpawned all count first → Stands first fault → IsCause fault reports (Some (cause.SenderStopped j)) → fault ≡ None
 free_if_stopped all count j first None reports spawned stands is = refl
 free_if_stopped true count j first (Some d) reports spawned stands is =
@@ -60,14 +60,14 @@ may_fail_known cause.QueueLost may = refl
 may_fail_known (cause.SenderStopped k) may = absurd may
 may_fail_known cause.Output may = refl
 
--- what was handed to the log begins what was taken
-pub handed_begins : (first : Option RunCause) (taken : List Entry) → BeginsWith taken (handed first taken)
-handed_begins None taken = ([], sym (append-nil taken))
-handed_begins (Some c) taken = (taken, refl)
+-- what was passed to the log begins what was taken
+pub logged_begins : (first : Option RunCause) (taken : List Entry) → BeginsWith taken (logged first taken)
+logged_begins None taken = ([], sym (append-nil taken))
+logged_begins (Some c) taken = (taken, refl)
 
-pub handed_all : (first : Option RunCause) (taken : List Entry) → first ≡ None → handed first taken ≡ taken
-handed_all None taken none = refl
-handed_all (Some c) taken none = absurd (let h : Some c ≡ None = none in cc)
+pub logged_all : (first : Option RunCause) (taken : List Entry) → first ≡ None → logged first taken ≡ taken
+logged_all None taken none = refl
+logged_all (Some c) taken none = absurd (let h : Some c ≡ None = none in cc)
 
 -- what is known by what the dispatcher failed by
 pub of_failure : (readers : ℕ) (c : RunCause) (taken : List Entry) (reports : List SenderReport) → length reports ≡ readers → length taken ≤ sum_by (λ r. r.accepted) reports → MayFail (Some c) → IsEndedBy readers c taken reports
@@ -90,7 +90,7 @@ of_stopped readers cause.Output taken reports all none is = absurd is
 of_stopped readers (cause.SenderStopped k) taken reports all none is =
     (all, record { known = is.known; stopped = λ r. stopped_for_memory (get_or reports k r).ending (is.stopped r) (none k r is.known); others = is.others; none_refused = none })
 
--- one more of the senders told its feed to its end
+-- one more of the senders read its feed to its end
 pub complete_more : {P : Type 0} (view : P → SenderReport) (ps : List P) (k : ℕ) (p : P) → k < length ps → p ≡ get_or ps k p → is_complete (view p).ending ≡ true → ((i : ℕ) (r : SenderReport) → i < k → is_complete (get_or (map view ps) i r).ending ≡ true)
     → (i : ℕ) (r : SenderReport) → i < k + 1 → is_complete (get_or (map view ps) i r).ending ≡ true
 complete_more view ps k p low is last each i r below = by_place (i == k) refl

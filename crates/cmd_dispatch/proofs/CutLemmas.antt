@@ -12,7 +12,7 @@ use Rattle.cmd_dispatch.proofs.Grown.{commands-append, refusals-append}
 use Rattle.cmd_types.specs.Bytes.{without_returns}
 use Rattle.cmd_run.specs.declared.ending.Ending.{Ending}
 use Rattle.cmd_run.specs.declared.ending.Ending.TheVariants as ending
-use Rattle.cmd_dispatch.specs.Told.{BeginsWith, MayBreakOff, IsAll, AreFirst}
+use Rattle.cmd_dispatch.specs.Delivered.{BeginsWith, MayBreakOff, IsAll, AreFirst}
 use Rattle.cmd_dispatch.specs.Sends.{AreGiven}
 use Rattle.cmd_dispatch.proofs.ToldLemmas.{so_far_first}
 
@@ -61,34 +61,34 @@ pub begins_twice : {A : Type 0} (xs ys zs : List A) → BeginsWith xs ys → Beg
 begins_twice xs ys zs a b = (b.0 ++ a.0, a.1 ∙ ap (λ l. l ++ a.0) b.1 ∙ append_assoc zs b.0 a.0)
 
 -- what was taken of a text comes first among its items
-given_first : (tells : Option (List ℕ)) (fails fills : Bool) (piece reads : ℕ) (text : List ℕ) (how : Ending) (given : List Item) → AreGiven tells fails fills piece reads text how given → AreFirst tells fails reads text given
-given_first tells fails fills piece reads text ending.Whole given are = inr (inl (are.1, ([], sym are.0 ∙ sym (append-nil given))))
-given_first tells fails fills piece reads text ending.ReadFailed given are = inr (inr (inl are.1, ([], sym are.0 ∙ sym (append-nil given))))
-given_first tells fails fills piece reads text ending.TooManyReads given are = inr (inr (inr are.1.0, ([], sym are.0 ∙ sym (append-nil given))))
-given_first tells fails fills piece reads text ending.Memory given are = are
-given_first tells fails fills piece reads text ending.QueueRefused given are = are
+given_first : (remaining : Option (List ℕ)) (fails fills : Bool) (piece reads : ℕ) (text : List ℕ) (how : Ending) (given : List Item) → AreGiven remaining fails fills piece reads text how given → AreFirst remaining fails reads text given
+given_first remaining fails fills piece reads text ending.Whole given are = inr (inl (are.1, ([], sym are.0 ∙ sym (append-nil given))))
+given_first remaining fails fills piece reads text ending.ReadFailed given are = inr (inr (inl are.1, ([], sym are.0 ∙ sym (append-nil given))))
+given_first remaining fails fills piece reads text ending.TooManyReads given are = inr (inr (inr are.1.0, ([], sym are.0 ∙ sym (append-nil given))))
+given_first remaining fails fills piece reads text ending.Memory given are = are
+given_first remaining fails fills piece reads text ending.QueueRefused given are = are
 
 -- the commands that were given are the first of the text
-pub first_commands : (tells : Option (List ℕ)) (fails fills : Bool) (piece reads : ℕ) (text : List ℕ) (how : Ending) (given : List Item) → AreGiven tells fails fills piece reads text how given → BeginsWith (commands (items text)) (commands given)
-first_commands tells fails fills piece reads text how given are =
-    elim (given_first tells fails fills piece reads text how given are) [
+pub first_commands : (remaining : Option (List ℕ)) (fails fills : Bool) (piece reads : ℕ) (text : List ℕ) (how : Ending) (given : List Item) → AreGiven remaining fails fills piece reads text how given → BeginsWith (commands (items text)) (commands given)
+first_commands remaining fails fills piece reads text how given are =
+    elim (given_first remaining fails fills piece reads text how given are) [
       | inl b ↦ begins_commands (items text) given (begins_twice (items text) (items_so_far text) given (so_far_first text) b)
       | inr (inl b) ↦ begins_commands (items text) given b.1
       | inr (inr b) ↦ begins_twice (commands (items text)) (commands (items_cut text)) (commands given) (cut_begins text) (begins_commands (items_cut text) given b.1)
     ]
 
 -- the command of a last line without its line feed only where all was delivered
-pub unfinished_last : (tells : Option (List ℕ)) (fails fills : Bool) (piece reads : ℕ) (text : List ℕ) (how : Ending) (given : List Item) → AreGiven tells fails fills piece reads text how given → IsAll tells text ⊎ BeginsWith (commands (items_so_far text)) (commands given)
-unfinished_last tells fails fills piece reads text how given are =
-    elim (given_first tells fails fills piece reads text how given are) [
+pub unfinished_last : (remaining : Option (List ℕ)) (fails fills : Bool) (piece reads : ℕ) (text : List ℕ) (how : Ending) (given : List Item) → AreGiven remaining fails fills piece reads text how given → IsAll remaining text ⊎ BeginsWith (commands (items_so_far text)) (commands given)
+unfinished_last remaining fails fills piece reads text how given are =
+    elim (given_first remaining fails fills piece reads text how given are) [
       | inl b ↦ inr (begins_commands (items_so_far text) given b)
       | inr (inl b) ↦ inl b.0
       | inr (inr b) ↦ inr (subst (λ (cs : List Timed). BeginsWith cs (commands given)) (cut_so_far text) (begins_commands (items_cut text) given b.1))
     ]
 
 -- and the refusals
-pub first_refusals : (tells : Option (List ℕ)) (fails fills : Bool) (piece reads : ℕ) (text : List ℕ) (how : Ending) (given : List Item) → AreGiven tells fails fills piece reads text how given → BeginsWith (refusals (items text)) (refusals given) ⊎ (MayBreakOff fails reads text × BeginsWith (refusals (items_cut text)) (refusals given))
-first_refusals tells fails fills piece reads text how given are = elim (given_first tells fails fills piece reads text how given are) [
+pub first_refusals : (remaining : Option (List ℕ)) (fails fills : Bool) (piece reads : ℕ) (text : List ℕ) (how : Ending) (given : List Item) → AreGiven remaining fails fills piece reads text how given → BeginsWith (refusals (items text)) (refusals given) ⊎ (MayBreakOff fails reads text × BeginsWith (refusals (items_cut text)) (refusals given))
+first_refusals remaining fails fills piece reads text how given are = elim (given_first remaining fails fills piece reads text how given are) [
   | inl b ↦ inl (begins_refusals (items text) given (begins_twice (items text) (items_so_far text) given (so_far_first text) b))
   | inr (inl b) ↦ inl (begins_refusals (items text) given b.1)
   | inr (inr b) ↦ inr (b.0, begins_refusals (items_cut text) given b.1)

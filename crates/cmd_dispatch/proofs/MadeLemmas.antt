@@ -1,7 +1,7 @@
 -- What a sender passes on whose feed makes its commands.
-use Rattle.std.proofs.Common.{◌≡◌, inl, inr, ℕ, ◌+◌, ◌*◌, ◌/◌, ◌<◌, ◌≤◌, Bool, true, List, [], ◌∷◌, ◌++◌, length, sym, ap, refl, subst, append_assoc, arith, length-append, Option}
-use Rattle.std.specs.Io.KnownBytes.{Consumes, Keeps, IsAtEnd}
-use Rattle.std.proofs.KnownBytes.{Consumes-nil, Consumes-trans, Consumes-kept, Keeps-refl}
+use Rattle.std.proofs.Common.{◌≡◌, inl, inr, ℕ, ◌+◌, ◌*◌, ◌/◌, ◌<◌, ◌≤◌, Bool, List, [], ◌∷◌, ◌++◌, length, sym, ap, refl, subst, append_assoc, arith, length-append, Option}
+use Rattle.std.specs.Io.KnownBytes.{Consumes}
+use Rattle.std.proofs.KnownBytes.{Consumes-nil, Consumes-trans}
 use Rattle.cmd_types.specs.Spelling.{Timed, IsWellFormed, canonical}
 use Rattle.cmd_types.specs.TextLines.{split_lines}
 use Rattle.cmd_lines.specs.declared.fault.LineFault.{LineFault}
@@ -16,14 +16,11 @@ use Rattle.cmd_queue.specs.Sides.{Sent, with_command}
 use Rattle.cmd_queue.specs.Plans.{planned_of, ComeFirst, commands_in}
 use Rattle.cmd_dispatch.specs.Planned.{IsPlannedBy}
 use Rattle.cmd_dispatch.proofs.PlanLemmas.{TheGrowthLaw, so_far_in_plan, passed_in_plan, planned_still, command_next}
-use Rattle.cmd_run.specs.declared.ending.Ending.{Ending}
 use Rattle.cmd_run.specs.declared.ending.Ending.TheVariants as ending
 use Rattle.cmd_dispatch.specs.declared.feed.TheConstants.{LONGEST_MADE}
 use Rattle.cmd_dispatch.specs.Feeds.{line_of, IsMade}
-use Rattle.cmd_dispatch.specs.Told.{told, IsEnded}
-use Rattle.cmd_dispatch.specs.Sends.{HasKept, HasPassedOn, HasRead, IsMaking, IsPartRead}
+use Rattle.cmd_dispatch.specs.Sends.{HasKept, HasPassedOn, IsMaking, IsPartRead}
 use Rattle.cmd_dispatch.proofs.SendLemmas.{command_passed, still_passed}
-use Rattle.cmd_dispatch.proofs.ToldLemmas.{all_delivered}
 
 -- the line of a command adds the command to the items of the whole lines before it
 abbrev pub TheMadeLaw : Type 0
@@ -43,10 +40,10 @@ pub one_fits : (many from reads piece : ℕ) → from ≡ reads → many < (from
 one_fits many from reads piece is low = subst (λ (r : ℕ). (many + 1) * LONGEST_MADE ≤ r * piece) is (fits_one many (from * piece) low)
 
 -- before the first command
-pub making_nothing : (tells : Option (List ℕ)) (side : Sent) (refused : List (ℕ × LineFault) → Type 0) → side.list ≡ [] → refused [] → IsMaking tells tells 0 side refused
-making_nothing tells side refused sent nothing = record {
+pub making_nothing : (remaining : Option (List ℕ)) (side : Sent) (refused : List (ℕ × LineFault) → Type 0) → side.list ≡ [] → refused [] → IsMaking remaining remaining 0 side refused
+making_nothing remaining side refused sent nothing = record {
   text = [];
-  consumed = Consumes-nil tells;
+  consumed = Consumes-nil remaining;
   whole = inl refl;
   bound = omega arith;
   few = omega (arith, ap length sent);
@@ -87,37 +84,3 @@ made_refused law before now next fails piece reads many t side side' refused ref
   first = inl (item.Command t ∷ [], law Open was.text t was.whole made.0);
   passed = still_passed (items_so_far was.text) side side' refused refused' same kept (was.passed Open);
 }
-
--- ---- the end of a feed
-
-told_passed : (how : Ending) (text : List ℕ) (side : Sent) (refused : List (ℕ × LineFault) → Type 0) → ((p : Phase) → HasPassedOn (known p text) side refused) → HasPassedOn (told how text) side refused
-told_passed ending.Whole text side refused passed = passed Finished
-told_passed ending.ReadFailed text side refused passed = passed CutOff
-told_passed ending.TooManyReads text side refused passed = passed CutOff
-told_passed ending.Memory text side refused passed = passed Finished
-told_passed ending.QueueRefused text side refused passed = passed Finished
-
-made_read : (before now next : Option (List ℕ)) (fails fills : Bool) (piece reads many : ℕ) (how : Ending) (side : Sent) (refused : List (ℕ × LineFault) → Type 0) (was : IsMaking before now many side refused) → many * LONGEST_MADE ≤ reads * piece → Keeps now next
-    → IsEnded before fails fills piece reads was.text how → HasRead before next fails fills piece reads how side refused
-made_read before now next fails fills piece reads many how side refused was room kept ended = record {
-  text = was.text;
-  consumed = Consumes-kept before now next was.text was.consumed kept;
-  bound = (let bound = was.bound in omega arith);
-  ended = ended;
-  passed = told_passed how was.text side refused was.passed;
-}
-
--- it has no further command
-pub made_whole : (before now next : Option (List ℕ)) (fails fills : Bool) (piece reads many : ℕ) (side : Sent) (refused : List (ℕ × LineFault) → Type 0) → IsMaking before now many side refused → many * LONGEST_MADE ≤ reads * piece → Keeps now next × IsAtEnd next
-    → HasRead before next fails fills piece reads ending.Whole side refused
-made_whole before now next fails fills piece reads many side refused was room end =
-    made_read before now next fails fills piece reads many ending.Whole side refused was room end.0 (all_delivered before next was.text (Consumes-kept before now next was.text was.consumed end.0) end.1)
-
--- it failed
-pub made_failed : (before now next : Option (List ℕ)) (fails fills : Bool) (piece reads many : ℕ) (side : Sent) (refused : List (ℕ × LineFault) → Type 0) → IsMaking before now many side refused → many * LONGEST_MADE ≤ reads * piece → Keeps now next → fails ≡ true
-    → HasRead before next fails fills piece reads ending.ReadFailed side refused
-made_failed before now next fails fills piece reads many side refused was room kept failing = made_read before now next fails fills piece reads many ending.ReadFailed side refused was room kept failing
-
--- or it has made as many as may fit
-pub made_many : (before now : Option (List ℕ)) (fails fills : Bool) (piece reads many : ℕ) (side : Sent) (refused : List (ℕ × LineFault) → Type 0) → IsMaking before now many side refused → many * LONGEST_MADE ≤ reads * piece → fails ≡ true → HasRead before now fails fills piece reads ending.ReadFailed side refused
-made_many before now fails fills piece reads many side refused was room failing = made_failed before now now fails fills piece reads many side refused was room (Keeps-refl now) failing

@@ -23,7 +23,7 @@ use Rattle.cmd_queue.specs.Sides.{QueueId, Sent, with_command, with_commands, ne
 use Rattle.cmd_run.specs.Senders.{AreOf}
 use Rattle.cmd_run.specs.declared.ending.Ending.{Ending}
 use Rattle.cmd_run.specs.declared.ending.Ending.TheVariants as ending
-use Rattle.cmd_dispatch.specs.Told.{told, BeginsWith, IsAll, IsEnded}
+use Rattle.cmd_dispatch.specs.Delivered.{items_by, BeginsWith, IsAll, IsEnded}
 use Rattle.cmd_dispatch.specs.Planned.{spelled, plan_of, AreOfRun, AreOfFeeds, IsOfPlan, IsPlannedBy}
 use Rattle.cmd_dispatch.specs.Sends.{HasPassedOn, HasBegun, HasInPlan, KeepsPlan, IsCovered}
 use Rattle.cmd_dispatch.proofs.Grown.{commands-append}
@@ -70,8 +70,8 @@ of_more n (x ∷ entries) e are low = (are.0, of_more n entries e are.1 low)
 -- ---- the plan of a run
 
 -- one entry more of the feeds
-pub fed_more : {F : Type 0} (tells : F → Option (List ℕ)) (feeds : List F) (taken : List Entry) (e : Entry) → e.sender < length feeds → AreOf (length feeds) taken → AreOfPlan (plan_of tells feeds) (taken ++ e ∷ []) → AreOfFeeds tells feeds (taken ++ e ∷ [])
-fed_more tells feeds taken e low are sent = (subst (λ (n : ℕ). AreOf n (taken ++ e ∷ [])) (sym (length-map feeds (λ feed. spelled (tells feed)))) (of_more (length feeds) taken e are low), sent)
+pub fed_more : {F : Type 0} (remaining : F → Option (List ℕ)) (feeds : List F) (taken : List Entry) (e : Entry) → e.sender < length feeds → AreOf (length feeds) taken → AreOfPlan (plan_of remaining feeds) (taken ++ e ∷ []) → AreOfFeeds remaining feeds (taken ++ e ∷ [])
+fed_more remaining feeds taken e low are sent = (subst (λ (n : ℕ). AreOf n (taken ++ e ∷ [])) (sym (length-map feeds (λ feed. spelled (remaining feed)))) (of_more (length feeds) taken e are low), sent)
 
 planned_at : {F : Type 0} (f : F → Option (List Timed)) (feeds : List F) (k : ℕ) (d : F) → k < length feeds → planned_of (map f feeds) k ≡ f (slice_index_or feeds k d)
 planned_at f [] k d low = absurd (omega arith)
@@ -84,9 +84,9 @@ planned_as None spells is = tt
 planned_as (Some all) spells is = sym is
 
 -- the side at the place of a feed is planned by it
-pub side_planned : {F : Type 0} (tells : F → Option (List ℕ)) (feeds : List F) (queue : QueueId) (k : ℕ) (f : F) (side : Sent) → queue.plan ≡ plan_of tells feeds → side ≡ new_side queue k → k < length feeds → IsPlannedBy (tells (slice_index_or feeds k f)) side
-side_planned tells feeds queue k f side plan is low =
-    planned_as (planned_of side.queue.plan side.sender) (spelled (tells (slice_index_or feeds k f))) (ap (λ (s : Sent). planned_of s.queue.plan s.sender) is ∙ ap (λ (p : Plan). planned_of p k) plan ∙ planned_at (λ feed. spelled (tells feed)) feeds k f low)
+pub side_planned : {F : Type 0} (remaining : F → Option (List ℕ)) (feeds : List F) (queue : QueueId) (k : ℕ) (f : F) (side : Sent) → queue.plan ≡ plan_of remaining feeds → side ≡ new_side queue k → k < length feeds → IsPlannedBy (remaining (slice_index_or feeds k f)) side
+side_planned remaining feeds queue k f side plan is low =
+    planned_as (planned_of side.queue.plan side.sender) (spelled (remaining (slice_index_or feeds k f))) (ap (λ (s : Sent). planned_of s.queue.plan s.sender) is ∙ ap (λ (p : Plan). planned_of p k) plan ∙ planned_at (λ feed. spelled (remaining feed)) feeds k f low)
 
 -- ---- what a sender sends
 
@@ -149,8 +149,8 @@ pub on_in_plan : (lines' : Waiting) (all : List Item) (text : List ℕ) (given :
 on_in_plan lines' all text given side refused stands passed is in_plan = (text, record { given = given; stands = stands; passed = passed }, subst (HasInPlan side) (sym is) in_plan)
 
 -- a side of the same queue and number is planned by the same feed
-pub planned_still : (tells : Option (List ℕ)) (side side' : Sent) → side'.queue ≡ side.queue → side'.sender ≡ side.sender → IsPlannedBy tells side → IsPlannedBy tells side'
-planned_still tells side side' queue sender planned = subst (λ (y : QueueId × ℕ). IfSome (planned_of y.0.plan y.1) (λ all. spelled tells ≡ Some all)) (λ i. (sym queue i, sym sender i)) planned
+pub planned_still : (remaining : Option (List ℕ)) (side side' : Sent) → side'.queue ≡ side.queue → side'.sender ≡ side.sender → IsPlannedBy remaining side → IsPlannedBy remaining side'
+planned_still remaining side side' queue sender planned = subst (λ (y : QueueId × ℕ). IfSome (planned_of y.0.plan y.1) (λ all. spelled remaining ≡ Some all)) (λ i. (sym queue i, sym sender i)) planned
 
 -- a command that is sent comes next
 pub command_next : (side : Sent) (place : ℕ) (t : Timed) → IsOfPlan (with_command side place t) → ComeFirst (planned_of side.queue.plan side.sender) (commands_in side.list ++ t ∷ [])
@@ -180,30 +180,30 @@ abbrev pub TheGrowthLaw : Type 0
 TheGrowthLaw = (p : Phase) (text more : List ℕ) → (later : List Item) × (known p (text ++ more) ≡ items_so_far text ++ later)
 
 module _ (grows : TheGrowthLaw) where
-  spelled_so_far : (tells after : Option (List ℕ)) (text : List ℕ) → Consumes tells after text → ComeFirst (spelled tells) (commands (items_so_far text))
+  spelled_so_far : (remaining after : Option (List ℕ)) (text : List ℕ) → Consumes remaining after text → ComeFirst (spelled remaining) (commands (items_so_far text))
   spelled_so_far None after text consumed = tt
   spelled_so_far (Some bytes) None text consumed = absurd consumed
   spelled_so_far (Some bytes) (Some rest) text consumed =
       let more = grows Finished text rest in
       (commands more.0, ap (λ (t : List ℕ). commands (items t)) consumed ∙ ap commands more.1 ∙ commands-append (items_so_far text) more.0)
 
-  spelled_whole : (tells : Option (List ℕ)) (text : List ℕ) → IsAll tells text → ComeFirst (spelled tells) (commands (items text))
+  spelled_whole : (remaining : Option (List ℕ)) (text : List ℕ) → IsAll remaining text → ComeFirst (spelled remaining) (commands (items text))
   spelled_whole None text all = tt
   spelled_whole (Some bytes) text all = ([], ap (λ (t : List ℕ). commands (items t)) (sym all) ∙ sym (append-nil (commands (items text))))
 
-  -- what is known of a text that the feed told comes first in what it spells
-  pub so_far_in_plan : (tells after : Option (List ℕ)) (text : List ℕ) (side : Sent) → IsPlannedBy tells side → Consumes tells after text → HasInPlan side (items_so_far text)
-  so_far_in_plan tells after text side planned consumed = spelled_in_plan (planned_of side.queue.plan side.sender) (spelled tells) (commands (items_so_far text)) planned (spelled_so_far tells after text consumed)
+  -- what is known of a text that the feed delivered comes first in what it spells
+  pub so_far_in_plan : (remaining after : Option (List ℕ)) (text : List ℕ) (side : Sent) → IsPlannedBy remaining side → Consumes remaining after text → HasInPlan side (items_so_far text)
+  so_far_in_plan remaining after text side planned consumed = spelled_in_plan (planned_of side.queue.plan side.sender) (spelled remaining) (commands (items_so_far text)) planned (spelled_so_far remaining after text consumed)
 
   -- also where the text ended so
-  pub told_in_plan : (tells after : Option (List ℕ)) (fails fills : Bool) (piece reads : ℕ) (how : Ending) (text : List ℕ) (side : Sent) → IsPlannedBy tells side → Consumes tells after text → IsEnded tells fails fills piece reads text how → HasInPlan side (told how text)
-  told_in_plan tells after fails fills piece reads how text side planned consumed is = spelled_in_plan (planned_of side.queue.plan side.sender) (spelled tells) (commands (told how text)) planned (by how is)
+  pub told_in_plan : (remaining after : Option (List ℕ)) (fails fills : Bool) (piece reads : ℕ) (how : Ending) (text : List ℕ) (side : Sent) → IsPlannedBy remaining side → Consumes remaining after text → IsEnded remaining fails fills piece reads text how → HasInPlan side (items_by how text)
+  told_in_plan remaining after fails fills piece reads how text side planned consumed is = spelled_in_plan (planned_of side.queue.plan side.sender) (spelled remaining) (commands (items_by how text)) planned (by how is)
     where
-      cut : ComeFirst (spelled tells) (commands (items_cut text))
-      cut = subst (ComeFirst (spelled tells)) (sym (cut_so_far text)) (spelled_so_far tells after text consumed)
+      cut : ComeFirst (spelled remaining) (commands (items_cut text))
+      cut = subst (ComeFirst (spelled remaining)) (sym (cut_so_far text)) (spelled_so_far remaining after text consumed)
 
-      by : (how : Ending) → IsEnded tells fails fills piece reads text how → ComeFirst (spelled tells) (commands (told how text))
-      by ending.Whole is = spelled_whole tells text is
+      by : (how : Ending) → IsEnded remaining fails fills piece reads text how → ComeFirst (spelled remaining) (commands (items_by how text))
+      by ending.Whole is = spelled_whole remaining text is
       by ending.ReadFailed is = cut
       by ending.TooManyReads is = cut
       by ending.Memory is = absurd is

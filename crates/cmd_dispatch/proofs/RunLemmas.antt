@@ -18,13 +18,13 @@ use Rattle.cmd_dispatch.specs.declared.threads.Promised.{Promised}
 use Rattle.cmd_dispatch.specs.Sends.{HasSent}
 use Rattle.cmd_dispatch.specs.Threads.{HaveStarted, HaveEnded}
 use Rattle.cmd_run.specs.Senders.{AreOf}
-use Rattle.cmd_dispatch.specs.Dispatches.{AreTakenOf, MayFail, Stands, handed, known_fault, HasTaken}
+use Rattle.cmd_dispatch.specs.Dispatches.{AreTakenOf, MayFail, Stands, logged, known_fault, HasTaken}
 use Rattle.cmd_dispatch.specs.Runs.{IsBegunBy, HasFed, HasEnded, IsEndedBy, fault_known, IsPartSettled, AreComplete, IsSpawned, IsCause}
 use Rattle.cmd_dispatch.proofs.DispatchLemmas.{entries_are_of}
 use Rattle.cmd_dispatch.proofs.CountLemmas.{all_counted, from_first}
 use Rattle.cmd_dispatch.specs.RunCalls.{Source, sources, read_as}
 use Rattle.cmd_options.specs.declared.options.RunOptions.{RunOptions}
-use Rattle.cmd_dispatch.proofs.CauseLemmas.{lost_first, no_fault, none_at_first, none_before, free_if_stopped, spawn_some, may_fail_known, handed_begins, handed_all, of_failure, of_stopped}
+use Rattle.cmd_dispatch.proofs.CauseLemmas.{lost_first, no_fault, none_at_first, none_before, free_if_stopped, spawn_some, may_fail_known, logged_begins, logged_all, of_failure, of_stopped}
 use Rattle.cmd_dispatch.proofs.SenderLemmas.{SentFrom, one_closed, one_told, not_refused, one_begun, few_taken, all_counted_of, of_one}
 
 -- a list has an element at each of its places
@@ -33,15 +33,15 @@ there [] k low = absurd (omega arith)
 there (x ∷ xs) zero low = x
 there (x ∷ xs) (suc k) low = there xs k (omega arith)
 
-module _ {F P : Type 0} (tells : F → Option (List ℕ)) (fails fills : F → Bool) (options : RunOptions) (sides : List Sent) (readers : List F) (reading : Reading) (before after : Taking) (handles : List (PromisedHandle (Ended × P × F) (Promised F))) (all : Bool)
+module _ {F P : Type 0} (remaining : F → Option (List ℕ)) (fails fills : F → Bool) (options : RunOptions) (sides : List Sent) (readers : List F) (reading : Reading) (before after : Taking) (handles : List (PromisedHandle (Ended × P × F) (Promised F))) (all : Bool)
     (ends : List Ended) (reports : List SenderReport) (refused : ℕ → List (ℕ × LineFault) → Type 0)
-    (new : IsNewQueue (length readers) sides before) (started : HaveStarted sides readers reading handles all) (joined : HaveEnded tells fails fills handles ends reports refused)
+    (new : IsNewQueue (length readers) sides before) (started : HaveStarted sides readers reading handles all) (joined : HaveEnded remaining fails fills handles ends reports refused)
     (piece_is : reading.piece ≡ options.piece) (reads_is : reading.reads ≡ options.reads) where
   abbrev fed : List Source
-  fed = sources tells fails fills options readers
+  fed = sources remaining fails fills options readers
 
   many : length fed ≡ length readers
-  many = length-map readers (read_as tells fails fills options)
+  many = length-map readers (read_as remaining fails fills options)
 
   -- what each thread has sent
   kept_at : (k : ℕ) (s : Source) (e : Ended) (r : SenderReport) → k < length handles → SentFrom (get_or fed k s) before.queue k (get_or ends k e) (get_or reports k r) (refused k)
@@ -54,8 +54,8 @@ module _ {F P : Type 0} (tells : F → Option (List ℕ)) (fails fills : F → B
       let side_is : (get_or handles k h).promise.side.value ≡ side = p.0 ∙ new.numbered k side (omega arith) in
       let room_is : (get_or handles k h).promise.reading.piece ≡ options.piece = ap (λ (x : Reading). x.piece) p.2 ∙ piece_is in
       let most_is : (get_or handles k h).promise.reading.reads ≡ options.reads = ap (λ (x : Reading). x.reads) p.2 ∙ reads_is in
-      subst (λ (x : Source). SentFrom x before.queue k (get_or ends k e) (get_or reports k r) (refused k)) (sym (get_or-map (read_as tells fails fills options) readers k f s (omega arith)))
-      (subst (λ (y : Sent × F × ℕ × ℕ). (left : Option (List ℕ)) × HasSent (tells y.1) left (fails y.1) (fills y.1) y.2 y.3 y.0.queue y.0.sender (get_or ends k e) (get_or reports k r) (refused k)) (λ i. (side_is i, p.1 i, room_is i, most_is i)) (joined.kept k h e r low))
+      subst (λ (x : Source). SentFrom x before.queue k (get_or ends k e) (get_or reports k r) (refused k)) (sym (get_or-map (read_as remaining fails fills options) readers k f s (omega arith)))
+      (subst (λ (y : Sent × F × ℕ × ℕ). (left : Option (List ℕ)) × HasSent (remaining y.1) left (fails y.1) (fills y.1) y.2 y.3 y.0.queue y.0.sender (get_or ends k e) (get_or reports k r) (refused k)) (λ i. (side_is i, p.1 i, room_is i, most_is i)) (joined.kept k h e r low))
 
   -- the ends are of the dispatcher's queue
   pub same_queue : after.queue ≡ before.queue → All (λ (e : Ended). e.queue ≡ after.queue) ends
@@ -71,9 +71,9 @@ module _ {F P : Type 0} (tells : F → Option (List ℕ)) (fails fills : F → B
     abbrev es : List Entry
     es = entries after.list
 
-    -- what was handed to the log
+    -- what was passed to the log
     abbrev noted : List Entry
-    noted = handed first es
+    noted = logged first es
 
     -- a run without a fault
     whole : (list : Settlement) → list.list ≡ after.list → list.senders ≡ after.senders → (fault ≡ None) × AreComplete reports → HasFed fed reports refused list
@@ -99,19 +99,19 @@ module _ {F P : Type 0} (tells : F → Option (List ℕ)) (fails fills : F → B
           alone = λ one. of_one es (subst (λ (n : ℕ). AreOf n es) one known);
           known = known;
           one_each = reports_are ∙ all_are ∙ sym many;
-          told_are = λ k s r low.
+          reported_are = λ k s r low.
               let low' : k < length handles = omega (arith, many) in
               let low'' : k < length ends = omega arith in
               let e = there ends k low'' in
               one_told (get_or fed k s) before.queue k (get_or ends k e) (get_or reports k r) (refused k) after (kept_at k s e r low') (settled k e low'') (taken.closed free.0 k (omega arith)) (free.1 k r (omega arith));
         })
 
-    -- where nothing failed but a sender that stopped, all was handed to the log
-    all_handed : (c : RunCause) (j : ℕ) → IsCause fault reports (Some c) → c ≡ cause.SenderStopped j → (fault ≡ None) × (noted ≡ es)
-    all_handed c j is stopped =
+    -- where nothing failed but a sender that stopped, all was passed to the log
+    all_logged : (c : RunCause) (j : ℕ) → IsCause fault reports (Some c) → c ≡ cause.SenderStopped j → (fault ≡ None) × (noted ≡ es)
+    all_logged c j is stopped =
         let taking = taken.taking in
         let free = free_if_stopped all count j first fault reports spawned taking.stands (subst (λ (x : RunCause). IsCause fault reports (Some x)) stopped is) in
-        (free, handed_all first es (none_before first fault taking.stands free))
+        (free, logged_all first es (none_before first fault taking.stands free))
 
     -- what stands of each sender that was started
     begun_are : (c : RunCause) → IsCause fault reports (Some c) → (k : ℕ) (s : Source) (r : SenderReport) → k < length reports → IsBegunBy (get_or fed k s) c k noted (get_or reports k r) (refused k)
@@ -121,8 +121,8 @@ module _ {F P : Type 0} (tells : F → Option (List ℕ)) (fails fills : F → B
         let low' : k < length handles = omega arith in
         let low'' : k < length ends = omega arith in
         let e = there ends k low'' in
-        one_begun (get_or fed k s) before.queue k (get_or ends k e) (get_or reports k r) (refused k) after (kept_at k s e r low') (settled k e low'') noted c (handed_begins first es)
-        (λ j stopped. let free = all_handed c j is stopped in (free.1, taken.closed free.0 k (omega arith)))
+        one_begun (get_or fed k s) before.queue k (get_or ends k e) (get_or reports k r) (refused k) after (kept_at k s e r low') (settled k e low'') noted c (logged_begins first es)
+        (λ j stopped. let free = all_logged c j is stopped in (free.1, taken.closed free.0 k (omega arith)))
 
     -- what was taken of a run with a fault
     part_settled : (list : Settlement) → list.list ≡ after.list → list.senders ≡ after.senders → (c : RunCause) → IsCause fault reports (Some c) → IsPartSettled (length fed) c noted reports list
@@ -132,13 +132,13 @@ module _ {F P : Type 0} (tells : F → Option (List ℕ)) (fails fills : F → B
         let ends_are = joined.ends_are in
         subst (λ (l : List Taken). IsPartSettled (length fed) c noted reports (record { queue = list.queue; senders = list.senders; list = l })) (sym list_is) (record {
           of_queue = list_of ∙ taking.same_senders ∙ new.known ∙ sym many;
-          journaled = handed_begins first es;
-          all_journaled = λ j stopped. sym (all_handed c j is stopped).1;
+          journaled = logged_begins first es;
+          all_journaled = λ j stopped. sym (all_logged c j is stopped).1;
           lost_journaled = λ lost.
               let first_is = lost_first all count first fault reports spawned taking.stands (subst (λ (x : RunCause). IsCause fault reports (Some x)) lost is) in
-              sym (handed_all first es first_is.0);
+              sym (logged_all first es first_is.0);
           all_closed = λ j stopped k low.
-              let none = (all_handed c j is stopped).0 in
+              let none = (all_logged c j is stopped).0 in
               let every = started.all_are (none_at_first all count first spawned (none_before first fault taking.stands none)) in
               taken.closed none k (omega (arith, many));
           counted = λ k r low closed.
@@ -194,7 +194,7 @@ module _ {F P : Type 0} (tells : F → Option (List ℕ)) (fails fills : F → B
             let none : first ≡ None = subst (λ (b : Bool). IsSpawned b count first) is_all spawned in
             let every : length reports ≡ length fed = joined.reports_are ∙ started.all_are is_all ∙ sym many in
             let taking = taken.taking in
-            subst (λ (l : List Entry). (AreOf (length reports) l) × IsEndedBy (length fed) c l reports) (sym (handed_all first es none))
+            subst (λ (l : List Entry). (AreOf (length reports) l) × IsEndedBy (length fed) c l reports) (sym (logged_all first es none))
             (subst (λ (n : ℕ). AreOf n es) (taking.same_senders ∙ new.known ∙ sym many ∙ sym every) (entries_are_of after.senders after.list taking.known), by_fault fault refl none every)
         by_all false is_all =
             let some : first ≡ Some (cause.Spawn count) = subst (λ (b : Bool). IsSpawned b count first) is_all spawned in
@@ -204,7 +204,7 @@ module _ {F P : Type 0} (tells : F → Option (List ℕ)) (fails fills : F → B
             let reports_are = joined.reports_are in
             let n : length reports ≡ count = omega arith in
             let fewer = started.not_all is_all in
-            let nothing : noted ≡ [] = ap (λ (y : Option RunCause). handed y es) some in
+            let nothing : noted ≡ [] = ap (λ (y : Option RunCause). logged y es) some in
             subst (λ (l : List Entry). (AreOf (length reports) l) × IsEndedBy (length fed) c l reports) (sym nothing)
             (tt, subst (λ (d : RunCause). IsEndedBy (length fed) d [] reports) (sym c_is) (refl, n, omega (arith, many)))
 
@@ -230,16 +230,16 @@ module _ {F P : Type 0} (tells : F → Option (List ℕ)) (fails fills : F → B
         let free = no_fault fault reports is in
         let first_is = none_before first fault taken.taking.stands free.0 in
         record {
-          handed = noted;
+          logged = noted;
           held = subst (λ (f : Option RunCause). holds f noted) (log_knows None is) taken.taking.held;
-          ran = (handed_all first es first_is ∙ ap entries (sym list_is), whole list list_is list_of free);
+          ran = (logged_all first es first_is ∙ ap entries (sym list_is), whole list list_is list_of free);
         }
     run_ended list list_is list_of (Some c) is =
         let by = ended c is in
         let reports_are = joined.reports_are in
         let few = started.few in
         record {
-          handed = noted;
+          logged = noted;
           held = subst (λ (f : Option RunCause). holds f noted) (log_knows (Some c) is) taken.taking.held;
           ran = record { few = omega (arith, many); known = by.0; ended = by.1; begun = begun_are c is; taken = part_settled list list_is list_of c is };
         }

@@ -24,7 +24,7 @@ use Rattle.cmd_run.specs.declared.ending.Ending.{Ending}
 use Rattle.cmd_run.specs.declared.ending.Ending.TheVariants as ending
 use Rattle.cmd_run.specs.declared.ending.SenderReport.{SenderReport}
 use Rattle.cmd_dispatch.specs.declared.sender.Sending.{Sending}
-use Rattle.cmd_dispatch.specs.Told.{told, BeginsWith, AreFirst, FillsPieces, IsEnded}
+use Rattle.cmd_dispatch.specs.Delivered.{items_by, BeginsWith, AreFirst, FillsPieces, IsEnded}
 use Rattle.cmd_dispatch.specs.Sends.{ahead, in_all, HasKept, IsSame, AreGiven, ArePut, HasSent, HasPassedOn, HasRead, HasReadText, IsPartRead, IsGiving, IsReading, IsFeeding, HasBegun, IsEndOf, HasLeft, HasClosed}
 use Rattle.cmd_dispatch.proofs.ToldLemmas.{begins_all, first_told, first_begun, first_given, first_more, all_delivered}
 
@@ -86,13 +86,13 @@ waited side first t =
     let none : with_commands s [] ≡ s = λ i. record { queue = s.queue; sender = s.sender; list = append-nil s.list i } in
     gathered_more s [] t ∙ ap (λ (y : Sent). with_command y (length y.list + 1) t) none ∙ sym (gathered_more side first t)
 
--- what was passed on stays so where what was told stays told
+-- what was passed on stays so where what was taken stays taken
 pub still_passed : (given : List Item) (side side' : Sent) (refused refused' : List (ℕ × LineFault) → Type 0) → side' ≡ side → HasKept refused refused' → HasPassedOn given side refused → HasPassedOn given side' refused'
 still_passed given side side' refused refused' same kept was = subst (λ (y : Sent). HasPassedOn given y refused') (sym same) (record { sent = was.sent; told = kept (refusals given) was.told })
 
 -- where nothing is gathered any more, all that stood ahead was sent
-pub sent_ahead : {P : Type 0} (has_told : P → List (ℕ × LineFault) → Type 0) (old new : Sending P) → IsSame has_told old new → new.gathered.items ≡ [] → new.side ≡ ahead old
-sent_ahead has_told old new same none =
+pub sent_ahead : {P : Type 0} (has_taken : P → List (ℕ × LineFault) → Type 0) (old new : Sending P) → IsSame has_taken old new → new.gathered.items ≡ [] → new.side ≡ ahead old
+sent_ahead has_taken old new same none =
     let all : with_commands new.side [] ≡ new.side = λ i. record { queue = new.side.queue; sender = new.side.sender; list = append-nil new.side.list i } in
     sym all ∙ sym (ap (with_commands new.side) none) ∙ same.0
 
@@ -158,9 +158,9 @@ reading_nothing lines side refused stands sent nothing =
     let h = subst (λ (g : List Item). Stands lines [] g × HasPassedOn g side refused) (sym nothing_known) (stands, record { sent = sent; told = nothing }) in
     record { stands = h.0; passed = h.1 }
 
-pub nothing_read : (tells : Option (List ℕ)) (fails : Bool) (piece reads : ℕ) (lines : Waiting) (side : Sent) (refused : List (ℕ × LineFault) → Type 0) → IsReading [] lines side refused → IsPartRead tells tells fails piece reads side refused
-nothing_read tells fails piece reads lines side refused at =
-    record { text = []; consumed = Consumes-nil tells; bound = omega arith; given = items_so_far []; first = inl (begins_all (items_so_far [])); passed = at.passed }
+pub nothing_read : (remaining : Option (List ℕ)) (fails : Bool) (piece reads : ℕ) (lines : Waiting) (side : Sent) (refused : List (ℕ × LineFault) → Type 0) → IsReading [] lines side refused → IsPartRead remaining remaining fails piece reads side refused
+nothing_read remaining fails piece reads lines side refused at =
+    record { text = []; consumed = Consumes-nil remaining; bound = omega arith; given = items_so_far []; first = inl (begins_all (items_so_far [])); passed = at.passed }
 
 -- ---- one read
 
@@ -251,12 +251,12 @@ read_many before now fails fills size reads n lines side refused was all =
 
 -- all of its items were passed on
 pub read_told : (before after : Option (List ℕ)) (fails fills : Bool) (piece reads : ℕ) (how : Ending) (lines : Waiting) (side side' : Sent) (refused refused' : List (ℕ × LineFault) → Type 0) → HasReadText before after fails fills piece reads how lines side refused
-    → ((f : List ℕ) → IsReading f lines side refused → HasPassedOn (told how f) side' refused') → HasRead before after fails fills piece reads how side' refused'
+    → ((f : List ℕ) → IsReading f lines side refused → HasPassedOn (items_by how f) side' refused') → HasRead before after fails fills piece reads how side' refused'
 read_told before after fails fills piece reads how lines side side' refused refused' read on = record { text = read.text; consumed = read.consumed; bound = read.bound; ended = read.ended; passed = on read.text read.reading }
 
 -- or the first of them
 pub read_begun : (before after : Option (List ℕ)) (fails fills : Bool) (piece reads : ℕ) (how : Ending) (lines : Waiting) (side side' : Sent) (refused refused' : List (ℕ × LineFault) → Type 0) → HasReadText before after fails fills piece reads how lines side refused
-    → ((f : List ℕ) → IsReading f lines side refused → HasBegun (told how f) side' refused') → IsPartRead before after fails piece reads side' refused'
+    → ((f : List ℕ) → IsReading f lines side refused → HasBegun (items_by how f) side' refused') → IsPartRead before after fails piece reads side' refused'
 read_begun before after fails fills piece reads how lines side side' refused refused' read on =
     let begun = on read.text read.reading in
     record { text = read.text; consumed = read.consumed; bound = read.bound; given = begun.given; first = first_begun before fails fills piece reads how read.text begun.given read.ended begun.first; passed = begun.passed }
@@ -278,7 +278,7 @@ first_sent sender cs put begins =
       sym front ∙ take-map Command k (entries_of sender cs) ∙ ap all_sent (take_after sender 0 k cs),
     )
 
--- an end of what was told before is one of what was told then
+-- an end of what was left before is one of what was left then
 end_kept : (side : Sent) (refused refused' : List (ℕ × LineFault) → Type 0) (how : Ending) (put sent : List Taken) (e : Ended) (r : SenderReport) (now : List (ℕ × LineFault) → Type 0) → HasKept refused refused' → IsEndOf side refused' how put sent e r now → IsEndOf side refused how put sent e r now
 end_kept side refused refused' how put sent e r now kept is =
     record { queue_is = is.queue_is; sender_is = is.sender_is; sent_is = is.sent_is; ending_is = is.ending_is; accepted = is.accepted; kept = λ lines was. is.kept lines (kept lines was) }
@@ -350,7 +350,7 @@ marked before fails fills piece reads text ending.TooManyReads sender list is = 
 marked before fails fills piece reads text ending.Memory sender list is = absurd is
 marked before fails fills piece reads text ending.QueueRefused sender list is = absurd is
 
-given_all : (before : Option (List ℕ)) (fails fills : Bool) (piece reads : ℕ) (text : List ℕ) (how : Ending) → IsEnded before fails fills piece reads text how → AreGiven before fails fills piece reads text how (told how text)
+given_all : (before : Option (List ℕ)) (fails fills : Bool) (piece reads : ℕ) (text : List ℕ) (how : Ending) → IsEnded before fails fills piece reads text how → AreGiven before fails fills piece reads text how (items_by how text)
 given_all before fails fills piece reads text ending.Whole is = (refl, is)
 given_all before fails fills piece reads text ending.ReadFailed is = (refl, is)
 given_all before fails fills piece reads text ending.TooManyReads is = (refl, is)
@@ -364,14 +364,14 @@ put_all before fails fills piece reads text ending.TooManyReads cs is = refl
 put_all before fails fills piece reads text ending.Memory cs is = absurd is
 put_all before fails fills piece reads text ending.QueueRefused cs is = absurd is
 
--- a sender that told its feed and then closed
+-- a sender that read its feed to the end and then closed
 pub closed_told : (before after : Option (List ℕ)) (fails fills : Bool) (piece reads : ℕ) (queue : QueueId) (sender : ℕ) (how : Ending) (side : Sent) (refused : List (ℕ × LineFault) → Type 0) (e : Ended) (r : SenderReport) (now : List (ℕ × LineFault) → Type 0)
     → side.queue ≡ queue → side.sender ≡ sender → HasRead before after fails fills piece reads how side refused → HasClosed side refused how e r now → HasSent before after fails fills piece reads queue sender e r now
 closed_told before after fails fills piece reads queue sender how side refused e r now same_queue same_sender read closed =
     ⊎_elim
-    (λ end. closed_with before after fails fills piece reads queue sender read.text (told how read.text) side refused how e r now same_queue same_sender read.consumed read.bound (given_all before fails fills piece reads read.text how read.ended)
-    (put_all before fails fills piece reads read.text how (commands (told how read.text)) read.ended) read.passed (marked before fails fills piece reads read.text how side.sender side.list read.ended) end)
-    (λ left. left_with before after fails fills piece reads queue sender read.text (told how read.text) side refused e r now same_queue same_sender read.consumed read.bound (first_told before fails fills piece reads how read.text read.ended) read.passed left)
+    (λ end. closed_with before after fails fills piece reads queue sender read.text (items_by how read.text) side refused how e r now same_queue same_sender read.consumed read.bound (given_all before fails fills piece reads read.text how read.ended)
+    (put_all before fails fills piece reads read.text how (commands (items_by how read.text)) read.ended) read.passed (marked before fails fills piece reads read.text how side.sender side.list read.ended) end)
+    (λ left. left_with before after fails fills piece reads queue sender read.text (items_by how read.text) side refused e r now same_queue same_sender read.consumed read.bound (first_told before fails fills piece reads how read.text read.ended) read.passed left)
     closed
 
 -- a sender that stopped and then closed, or left

@@ -19,11 +19,11 @@ use Rattle.cmd_run.specs.declared.ending.SenderReport.{SenderReport}
 use Rattle.cmd_run.specs.declared.fault.RunCause.{RunCause}
 use Rattle.cmd_run.specs.declared.fault.RunCause.TheVariants as cause
 use Rattle.cmd_run.specs.Endings.{is_complete}
-use Rattle.cmd_dispatch.specs.Told.{told, BeginsWith, IsAll, IsEnded}
+use Rattle.cmd_dispatch.specs.Delivered.{items_by, BeginsWith, IsAll, IsEnded}
 use Rattle.cmd_dispatch.specs.Sends.{in_all, AreGiven, ArePut, HasSent}
 use Rattle.cmd_run.specs.Senders.{AreOf}
 use Rattle.cmd_dispatch.specs.RunCalls.{Source}
-use Rattle.cmd_dispatch.specs.Runs.{IsToldBy, IsBegunBy}
+use Rattle.cmd_dispatch.specs.Runs.{IsReportedBy, IsBegunBy}
 use Rattle.std.proofs.lemmas.List.Elements.{filter-append, filter_map-append}
 use Rattle.cmd_dispatch.proofs.CutLemmas.{begins_twice, first_commands, first_refusals, unfinished_last, take_begins}
 use Rattle.cmd_dispatch.proofs.DispatchLemmas.{of_sender-entries}
@@ -32,7 +32,7 @@ use Rattle.cmd_dispatch.proofs.ToldLemmas.{delivered}
 
 -- what the thread of this feed has sent
 abbrev pub SentFrom : Source → QueueId → (k : ℕ) → Ended → SenderReport → (List (ℕ × LineFault) → Type 0) → Type 0
-SentFrom source queue k e r refused = (after : Option (List ℕ)) × HasSent source.tells after source.fails source.fills source.piece source.reads queue k e r refused
+SentFrom source queue k e r refused = (after : Option (List ℕ)) × HasSent source.remaining after source.fails source.fills source.piece source.reads queue k e r refused
 
 entries_sent : (es : List Entry) (l : List Taken) → entries (all_sent es ++ l) ≡ es ++ entries l
 entries_sent [] l = refl
@@ -47,8 +47,8 @@ entries_in_all ending.Memory s es = entries_sent es (Closed s (length (all_sent 
 entries_in_all ending.QueueRefused s es = ap entries (sym (append-nil (all_sent es))) ∙ entries_sent es [] ∙ append-nil es
 
 -- with a complete ending all items of the text were given
-given_complete : (source : Source) (text : List ℕ) (how : Ending) (given : List Item) → is_complete how ≡ true → AreGiven source.tells source.fails source.fills source.piece source.reads text how given
-    → (given ≡ told how text) × IsEnded source.tells source.fails source.fills source.piece source.reads text how
+given_complete : (source : Source) (text : List ℕ) (how : Ending) (given : List Item) → is_complete how ≡ true → AreGiven source.remaining source.fails source.fills source.piece source.reads text how given
+    → (given ≡ items_by how text) × IsEnded source.remaining source.fails source.fills source.piece source.reads text how
 given_complete source text ending.Whole given whole are = are
 given_complete source text ending.ReadFailed given whole are = are
 given_complete source text ending.TooManyReads given whole are = are
@@ -70,7 +70,7 @@ put_first ending.TooManyReads cs put are = ([], sym are ∙ sym (append-nil put)
 put_first ending.Memory cs put are = ([], sym are ∙ sym (append-nil put))
 put_first ending.QueueRefused cs put are = are
 
--- what a sender that told its text to its end has sent in all ends in its close mark
+-- what a sender that read its text to its end has sent in all ends in its close mark
 marked : (how : Ending) (s : ℕ) (sent : List Taken) → is_complete how ≡ true → in_all how s sent ≡ sent ++ Closed s (length sent) ∷ []
 marked ending.Whole s sent whole = refl
 marked ending.ReadFailed s sent whole = refl
@@ -101,7 +101,7 @@ module _ (source : Source) (queue : QueueId) (k : ℕ) (e : Ended) (r : SenderRe
   abbrev after : Option (List ℕ)
   after = is.0
 
-  abbrev sent : HasSent source.tells is.0 source.fails source.fills source.piece source.reads queue k e r refused
+  abbrev sent : HasSent source.remaining is.0 source.fails source.fills source.piece source.reads queue k e r refused
   sent = is.1
 
   abbrev es : List Entry
@@ -114,13 +114,13 @@ module _ (source : Source) (queue : QueueId) (k : ℕ) (e : Ended) (r : SenderRe
       (all, of_sender-entries k d.list ∙ ap entries (all ∙ sent.sent) ∙ entries_in_all r.ending k (entries_of k sent.put))
 
   -- with a complete ending all items of its text were given, and all their commands put into the queue
-  items_given : is_complete r.ending ≡ true → (sent.given ≡ told r.ending sent.text) × IsEnded source.tells source.fails source.fills source.piece source.reads sent.text r.ending
+  items_given : is_complete r.ending ≡ true → (sent.given ≡ items_by r.ending sent.text) × IsEnded source.remaining source.fails source.fills source.piece source.reads sent.text r.ending
   items_given complete = given_complete source sent.text r.ending sent.given complete sent.items
 
-  commands_put : is_complete r.ending ≡ true → sent.put ≡ commands (told r.ending sent.text)
+  commands_put : is_complete r.ending ≡ true → sent.put ≡ commands (items_by r.ending sent.text)
   commands_put complete = put_complete r.ending (commands sent.given) sent.put complete sent.put_are ∙ ap commands (items_given complete).0
 
-  -- what was taken of a sender that told its text to its end: its entries in the journal, and its mark with their number
+  -- what was taken of a sender that read its text to its end: its entries in the journal, and its mark with their number
   pub one_closed : is_closed k d.list ≡ true → is_complete r.ending ≡ true → lists.of_sender k d.list ≡ all_sent (of_sender k es) ++ Closed k r.accepted ∷ []
   one_closed closed complete =
       let taken = one_taken closed in
@@ -129,10 +129,10 @@ module _ (source : Source) (queue : QueueId) (k : ℕ) (e : Ended) (r : SenderRe
       taken.0 ∙ sent.sent ∙ marked r.ending k put complete ∙ ap (λ (n : ℕ). put ++ Closed k n ∷ []) count ∙ ap (λ (l : List Entry). all_sent l ++ Closed k r.accepted ∷ []) (sym taken.1)
 
   -- all its entries were taken
-  pub one_told : is_closed k d.list ≡ true → is_complete r.ending ≡ true → IsToldBy source k es r refused
+  pub one_told : is_closed k d.list ≡ true → is_complete r.ending ≡ true → IsReportedBy source k es r refused
   one_told closed complete = record {
     text = sent.text;
-    delivered = delivered source.tells after source.piece source.reads sent.text sent.consumed sent.bound;
+    delivered = delivered source.remaining after source.piece source.reads sent.text sent.consumed sent.bound;
     ended = (items_given complete).1;
     journaled = (one_taken closed).1 ∙ ap (entries_of k) (commands_put complete);
     accepted = sent.accepted ∙ ap length (commands_put complete);
@@ -154,7 +154,7 @@ module _ (source : Source) (queue : QueueId) (k : ℕ) (e : Ended) (r : SenderRe
   begun_is = settled.begins.1 ∙ ap (λ s. lists.of_sender s d.list ++ settled.begins.0) sent.sender_is
 
   -- of the lines that a text spells those are accepted that were put into the queue
-  so_far : IsAll source.tells sent.text ⊎ BeginsWith (commands (items_so_far sent.text)) (commands sent.given) → IsAll source.tells sent.text ⊎ (r.accepted ≤ length (commands (items_so_far sent.text)))
+  so_far : IsAll source.remaining sent.text ⊎ BeginsWith (commands (items_so_far sent.text)) (commands sent.given) → IsAll source.remaining sent.text ⊎ (r.accepted ≤ length (commands (items_so_far sent.text)))
   so_far (inl all) = inl all
   so_far (inr begins) = inr (let lines = commands (items_so_far sent.text) in (take_begins lines sent.put r.accepted (begins_twice lines (commands sent.given) sent.put begins (put_first r.ending (commands sent.given) sent.put sent.put_are)) sent.accepted).0)
 
@@ -162,21 +162,21 @@ module _ (source : Source) (queue : QueueId) (k : ℕ) (e : Ended) (r : SenderRe
   pub one_begun : (journal : List Entry) (c : RunCause) → BeginsWith es journal → ((j : ℕ) → c ≡ cause.SenderStopped j → (journal ≡ es) × (is_closed k d.list ≡ true)) → IsBegunBy source c k journal r refused
   one_begun journal c more all =
       let cs = commands (items sent.text) in
-      let begins = begins_twice cs (commands sent.given) sent.put (first_commands source.tells source.fails source.fills source.piece source.reads sent.text r.ending sent.given sent.items) (put_first r.ending (commands sent.given) sent.put sent.put_are) in
+      let begins = begins_twice cs (commands sent.given) sent.put (first_commands source.remaining source.fails source.fills source.piece source.reads sent.text r.ending sent.given sent.items) (put_first r.ending (commands sent.given) sent.put sent.put_are) in
       let first = take_begins cs sent.put r.accepted begins sent.accepted in
       let whole : entries_of k (take r.accepted cs) ≡ entries e.list = ap (entries_of k) first.1 ∙ sym put_is in
       let rest = settled.begins.0 in
       let front : entries (lists.of_sender k d.list) ≡ of_sender k journal ++ of_sender k more.0 = sym (of_sender-entries k d.list) ∙ ap (of_sender k) more.1 ∙ filter-append (λ (x : Entry). x.sender == k) journal more.0 in
       record {
         text = sent.text;
-        delivered = delivered source.tells after source.piece source.reads sent.text sent.consumed sent.bound;
+        delivered = delivered source.remaining after source.piece source.reads sent.text sent.consumed sent.bound;
         accepted = first.0;
-        unfinished = so_far (unfinished_last source.tells source.fails source.fills source.piece source.reads sent.text r.ending sent.given sent.items);
+        unfinished = so_far (unfinished_last source.remaining source.fails source.fills source.piece source.reads sent.text r.ending sent.given sent.items);
         journaled = (of_sender k more.0 ++ entries rest, whole ∙ ap entries begun_is ∙ filter_map-append entry_in (lists.of_sender k d.list) rest ∙ ap (λ (l : List Entry). l ++ entries rest) front ∙ append_assoc (of_sender k journal) (of_sender k more.0) (entries rest));
         all_journaled = λ j stopped.
             let free = all j stopped in
             ap (of_sender k) free.0 ∙ of_sender-entries k d.list ∙ ap entries (one_taken free.1).0 ∙ sym whole;
-        refused = (refusals sent.given, sent.told, first_refusals source.tells source.fails source.fills source.piece source.reads sent.text r.ending sent.given sent.items);
+        refused = (refusals sent.given, sent.told, first_refusals source.remaining source.fails source.fills source.piece source.reads sent.text r.ending sent.given sent.items);
         ended = λ complete. (items_given complete).1;
         all_accepted = λ complete. sent.accepted ∙ ap length (commands_put complete);
         all_refused = λ complete. subst refused (ap refusals (items_given complete).0) sent.told;

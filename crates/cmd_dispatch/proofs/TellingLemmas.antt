@@ -1,4 +1,4 @@
--- A log that tells, entry by entry.
+-- A log that prints, entry by entry.
 use Rattle.std.proofs.Common.{◌≡◌, ◌≢◌, ◌<◌, ◌≤◌, inl, inr, IfOk, IfErr, OnOk, OnErr, ◌↔◌, ℕ, List, [], ◌∷◌, ◌++◌, length, map, get_or, Option, Some, None, Result, Ok, Err, refl, sym, ap, ◌∙◌, subst, arith, append_assoc, append-nil, length-append}
 use Rattle.std.proofs.KnownBytes.{Appends-nil, Appends-trans}
 use Rattle.std.proofs.lemmas.List.{length-map, get_or-map}
@@ -14,7 +14,7 @@ use Rattle.cmd_ledger.specs.declared.ledger.Ledger.{Ledger}
 use Rattle.cmd_ledger.specs.Ledgers.{AreLastsOf, HasApplied, HasToldFrom}
 use Rattle.cmd_run.specs.declared.fault.RunCause.{RunCause}
 use Rattle.cmd_run.specs.declared.fault.RunCause.TheVariants as cause
-use Rattle.cmd_dispatch.specs.Told.{BeginsWith, HaveToldNothing}
+use Rattle.cmd_dispatch.specs.Delivered.{BeginsWith, HaveTakenNothing}
 use Rattle.cmd_dispatch.specs.Dispatches.{IsOfLog}
 use Rattle.cmd_dispatch.specs.Logs.{fault_in}
 use Rattle.cmd_dispatch.proofs.JournalingLemmas.{IsNewMonitor}
@@ -46,7 +46,7 @@ pub no_room : (limit : ℕ) (inv : Configuration) (clock : Option ℕ) (before :
 no_room limit inv clock before taken e ledger waiting now full is = (let n = is.told.has_told.applied in omega (arith, full, length-append taken (e ∷ [])))
 
 module _ (limit : ℕ) (inv : Configuration) (clock : Option ℕ) (before : Option (List ℕ)) where
-  -- what stands where an entry met a fault: nothing more was told
+  -- what stands where an entry met a fault: nothing more was printed
   pub telling_failed : (c : RunCause) (taken : List Entry) (e : Entry) (ledger ledger' : Ledger) (waiting waiting' : List ℕ) (now : Option (List ℕ)) → IsOfLog c → IsTelling limit inv clock before None taken ledger waiting now → IsWithin limit (Some c) (taken ++ e ∷ []) → IsTelling limit inv clock before (Some c) (taken ++ e ∷ []) ledger' waiting' now
   telling_failed c taken e ledger ledger' waiting waiting' now of_log is within =
       let more = told_begins inv clock (initial inv) taken (e ∷ []) in
@@ -63,7 +63,7 @@ module _ (limit : ℕ) (inv : Configuration) (clock : Option ℕ) (before : Opti
       by_cause (cause.SenderStopped k) of h = absurd of
       by_cause cause.Output of h = h
 
-  -- one more entry was applied, and told of
+  -- one more entry was applied, and its lines wait
   pub telling_noted : (taken : List Entry) (e : Entry) (ledger ledger' : Ledger) (waiting waiting' : List ℕ) (now : Option (List ℕ)) → IsTelling limit inv clock before None taken ledger waiting now → ledger.monitor.applied < limit
       → ((inv : Configuration) (clock : Option ℕ) (w : World) (earlier applied : List Entry) (printed : List ℕ) → HasApplied inv clock w earlier applied printed waiting ledger → HasApplied inv clock w earlier (applied ++ e ∷ []) printed waiting' ledger')
       → IsTelling limit inv clock before None (taken ++ e ∷ []) ledger' waiting' now
@@ -79,7 +79,7 @@ module _ (limit : ℕ) (inv : Configuration) (clock : Option ℕ) (before : Opti
     within = (let n = is.told.has_told.applied in omega (arith, room, n, length-append taken (e ∷ [])));
   }
 
--- what waited was told
+-- what waited was printed
 pub telling_passed : (limit : ℕ) (inv : Configuration) (clock : Option ℕ) (before : Option (List ℕ)) (taken : List Entry) (ledger : Ledger) (waiting waiting' : List ℕ) (now now' : Option (List ℕ)) → IsTelling limit inv clock before None taken ledger waiting now → Appends now now' waiting → waiting' ≡ []
     → IsTelling limit inv clock before None taken ledger waiting' now'
 telling_passed limit inv clock before taken ledger waiting waiting' now now' is passed none = record {
@@ -138,9 +138,9 @@ telling_nothing limit now ledger waiting new counts lasts none = record {
   within = omega arith;
 }
 
--- ---- what a run that told comes to
+-- ---- what a run that prints comes to
 
--- the first were told, by why the run came to its end
+-- the first were printed, by why the run came to its end
 told_first : (limit : ℕ) (inv : Configuration) (clock : Option ℕ) (before : Option (List ℕ)) (c : RunCause) (taken : List Entry) (ledger : Ledger) (waiting : List ℕ) (now : Option (List ℕ)) → IsTelling limit inv clock before (fault_known (Some c)) taken ledger waiting now → HasToldPart inv clock taken c before now
 told_first limit inv clock before c taken ledger waiting now is = record {
   told = is.gone;
@@ -169,11 +169,11 @@ told_first limit inv clock before c taken ledger waiting now is = record {
     none_behind (cause.SenderStopped k) other h = h
     none_behind cause.Output other h = absurd (other refl)
 
--- a run whose journal is full was handed more entries than its limit
+-- a run whose journal is full was passed more entries than its limit
 over_limit : (limit : ℕ) (c : RunCause) (taken : List Entry) → c ≡ cause.JournalFull → IsWithin limit (fault_known (Some c)) taken → limit < length taken
 over_limit limit c taken full within = subst (λ (x : RunCause). IsWithin limit (fault_known (Some x)) taken) full within
 
-module _ {A : Type 0} (call : RunCall) (clock : Option ℕ) (B C : Type 0) (W : Option RunCause → List Entry → Type 0) (has_told : A → List (ℕ × LineFault) → Type 0) (start : Option (List ℕ)) (waiting : List ℕ) (before now : Option (List ℕ)) (followed : Followed A) (gone : Ledger) (of_log : followed.monitor ≡ gone.monitor) where
+module _ {A : Type 0} (call : RunCall) (clock : Option ℕ) (B C : Type 0) (W : Option RunCause → List Entry → Type 0) (has_taken : A → List (ℕ × LineFault) → Type 0) (start : Option (List ℕ)) (waiting : List ℕ) (before now : Option (List ℕ)) (followed : Followed A) (gone : Ledger) (of_log : followed.monitor ≡ gone.monitor) where
   abbrev inv : Configuration
   inv = call.inventory
 
@@ -184,12 +184,12 @@ module _ {A : Type 0} (call : RunCall) (clock : Option ℕ) (B C : Type 0) (W : 
   holds fault taken = B × C × IsTelling call.limit inv clock start fault taken gone waiting before × W fault taken
 
   abbrev Ended : Option RunCause → Type 0
-  Ended why = HasEnded call.sources holds why (map (λ f. f.report) followed.feeds.items) (attended_at has_told followed.feeds.items) settled
+  Ended why = HasEnded call.sources holds why (map (λ f. f.report) followed.feeds.items) (attended_at has_taken followed.feeds.items) settled
 
   abbrev HasCome : Result (Followed A) (FollowFault A) → Type 0
-  HasCome run = IfOk run (λ r. HasFollowed call clock start now (followed_outcome r) (attended_at has_told r.feeds.items))
+  HasCome run = IfOk run (λ r. HasFollowed call clock start now (followed_outcome r) (attended_at has_taken r.feeds.items))
 
-  pub followed_ok : (why : Option RunCause) (run : Result (Followed A) (FollowFault A)) → Ended why → IsFollowedAs why followed before waiting now run → HasCome run
+  followed_ok : (why : Option RunCause) (run : Result (Followed A) (FollowFault A)) → Ended why → IsFollowedAs why followed before waiting now run → HasCome run
   followed_ok None (Ok r) ended made =
       let is = ended.held.2 in
       let text : is.written ++ waiting ≡ told_text inv clock (initial inv) (entries settled.list) = is.told.told ∙ ap (told_text inv clock (initial inv)) ended.ran.0 in
@@ -203,32 +203,35 @@ module _ {A : Type 0} (call : RunCall) (clock : Option ℕ) (B C : Type 0) (W : 
   followed_ok (Some c) run ended made = subst HasCome (sym made.0) tt
 
   abbrev HasFaulted : Result (Followed A) (FollowFault A) → Type 0
-  HasFaulted run = IfErr run (λ e. HasStopped call clock start now e.cause (map (λ f. f.report) e.feeds.items) (attended_at has_told e.feeds.items))
+  HasFaulted run = IfErr run (λ e. HasStopped call clock start now e.cause (map (λ f. f.report) e.feeds.items) (attended_at has_taken e.feeds.items))
 
-  pub followed_err : (why : Option RunCause) (run : Result (Followed A) (FollowFault A)) → Ended why → IsFollowedAs why followed before waiting now run → HasFaulted run
+  followed_err : (why : Option RunCause) (run : Result (Followed A) (FollowFault A)) → Ended why → IsFollowedAs why followed before waiting now run → HasFaulted run
   followed_err None (Ok r) ended made = tt
   followed_err None (Err e) ended made =
       let is = ended.held.2 in
-      let stopped = telling_stopped call.limit inv clock start ended.handed gone waiting waiting before now is made.1 in
-      let part : HasToldPart inv clock (entries settled.list) cause.Output start now = subst (λ (es : List Entry). HasToldPart inv clock es cause.Output start now) ended.ran.0 (told_first call.limit inv clock start cause.Output ended.handed gone waiting now stopped) in
+      let stopped = telling_stopped call.limit inv clock start ended.logged gone waiting waiting before now is made.1 in
+      let part : HasToldPart inv clock (entries settled.list) cause.Output start now = subst (λ (es : List Entry). HasToldPart inv clock es cause.Output start now) ended.ran.0 (told_first call.limit inv clock start cause.Output ended.logged gone waiting now stopped) in
       subst (λ (x : FollowFault A). HasFaulted (Err x)) (sym made.0) (inr (inr (settled, refl, ended.ran.1, subst (λ (es : List Entry). length es ≤ call.limit) ended.ran.0 is.within, part)))
   followed_err (Some c) run ended made =
       subst HasFaulted (sym made.0) (inl (record {
-        handed = ended.handed;
+        logged = ended.logged;
         settled = settled;
         fed = ended.ran;
-        told = subst (HasToldPart inv clock ended.handed c start) (sym made.1) (told_first call.limit inv clock start c ended.handed gone waiting before ended.held.2);
-        full = λ is. over_limit call.limit c ended.handed is ended.held.2.within;
+        told = subst (HasToldPart inv clock ended.logged c start) (sym made.1) (told_first call.limit inv clock start c ended.logged gone waiting before ended.held.2);
+        full = λ is. over_limit call.limit c ended.logged is ended.held.2.within;
       }))
 
   abbrev IsInRange : Result (Followed A) (FollowFault A) → Type 0
   IsInRange run = IfErr run (λ e. e.cause ≢ cause.BadOptions)
 
-  pub followed_bad : (why : Option RunCause) (run : Result (Followed A) (FollowFault A)) → Ended why → IsFollowedAs why followed before waiting now run → IsInRange run
+  followed_bad : (why : Option RunCause) (run : Result (Followed A) (FollowFault A)) → Ended why → IsFollowedAs why followed before waiting now run → IsInRange run
   followed_bad None (Ok r) ended made = tt
   followed_bad None (Err e) ended made = λ bad. (let is : cause.Output ≡ cause.BadOptions = sym (ap (λ (x : FollowFault A). x.cause) made.0) ∙ bad in cc)
   followed_bad (Some c) run ended made =
-      subst IsInRange (sym made.0) (λ bad. subst (λ (x : RunCause). IsEndedBy (length call.sources) x ended.handed (map (λ f. f.report) followed.feeds.items)) bad ended.ran.ended)
+      subst IsInRange (sym made.0) (λ bad. subst (λ (x : RunCause). IsEndedBy (length call.sources) x ended.logged (map (λ f. f.report) followed.feeds.items)) bad ended.ran.ended)
+
+  pub followed_all : (why : Option RunCause) (run : Result (Followed A) (FollowFault A)) → Ended why → IsFollowedAs why followed before waiting now run → HasCome run × HasFaulted run × IsInRange run
+  followed_all why run ended made = (followed_ok why run ended made, followed_err why run ended made, followed_bad why run ended made)
 
 -- where the options are in range, a cause that is another says that they are
 pub never_bad : {R A : Type 0} → (range : Type 0) → range → (run : Result R (FollowFault A)) → IfErr run (λ e. e.cause ≢ cause.BadOptions) → IfErr run (λ e. (e.cause ≡ cause.BadOptions) ↔ (range → ⊥))
@@ -240,14 +243,14 @@ pub always_ok : {R E : Type 0} (r : Result R E) (holds : Type 0) → holds → O
 always_ok (Ok x) holds is = is
 always_ok (Err e) holds is = tt
 
--- feeds with attendants that have told nothing
-pub attended_nothing : {A : Type 0} (has_told : A → List (ℕ × LineFault) → Type 0) (feeds : List (FollowedFeed A)) (attendants : List A) (n : ℕ) → map (λ f. f.attendant) feeds ≡ attendants → ListNothing feeds → HaveToldNothing has_told attendants n
-    → HaveToldNothing (λ (f : FollowedFeed A) refused. has_told f.attendant refused × (f.report.refused.items ≡ [])) feeds n
-attended_nothing has_told feeds attendants n is unlisted are =
+-- feeds with attendants that have taken nothing
+pub attended_nothing : {A : Type 0} (has_taken : A → List (ℕ × LineFault) → Type 0) (feeds : List (FollowedFeed A)) (attendants : List A) (n : ℕ) → map (λ f. f.attendant) feeds ≡ attendants → ListNothing feeds → HaveTakenNothing has_taken attendants n
+    → HaveTakenNothing (λ (f : FollowedFeed A) refused. has_taken f.attendant refused × (f.report.refused.items ≡ [])) feeds n
+attended_nothing has_taken feeds attendants n is unlisted are =
     let many : length feeds ≡ n = sym (length-map feeds (λ (f : FollowedFeed _). f.attendant)) ∙ ap length is ∙ are.0 in (
       many,
       λ k f low. (
-        subst (λ a. has_told a []) (ap (λ l. get_or l k f.attendant) (sym is) ∙ get_or-map (λ (x : FollowedFeed _). x.attendant) feeds k f f.attendant (omega (arith, low, many))) (are.1 k f.attendant low),
+        subst (λ a. has_taken a []) (ap (λ l. get_or l k f.attendant) (sym is) ∙ get_or-map (λ (x : FollowedFeed _). x.attendant) feeds k f f.attendant (omega (arith, low, many))) (are.1 k f.attendant low),
         sym (get_or-map (λ (x : FollowedFeed _). x.report.refused.items) feeds k f [] (omega (arith, low, many))) ∙ ap (λ l. get_or l k []) unlisted ∙ get_or-map (λ (x : FollowedFeed _). []) feeds k f [] (omega (arith, low, many)),
       ),
     )

@@ -8,7 +8,7 @@ use Rattle.cmd_queue.specs.Sides.{QueueId, Sent, Ended}
 use Rattle.cmd_run.specs.declared.ending.SenderReport.{SenderReport}
 use Rattle.cmd_dispatch.specs.declared.reading.Reading.{Reading}
 use Rattle.cmd_dispatch.specs.declared.threads.Promised.{Promised}
-use Rattle.cmd_dispatch.specs.Told.{told_at, HaveToldNothing}
+use Rattle.cmd_dispatch.specs.Delivered.{taken_at, HaveTakenNothing}
 use Rattle.cmd_dispatch.specs.Sends.{HasKept, HasSent}
 use Rattle.cmd_dispatch.specs.Planned.{IsPlannedBy}
 use Rattle.cmd_dispatch.specs.Threads.{ArePlannedBy, HasPromised, HaveStarted, AreStarting, HasKeptIt, HaveEnded}
@@ -74,12 +74,12 @@ module _ {F P : Type 0} (sides : List Sent) (feeds : List F) (reports : List P) 
       let low : length hs < length feeds = omega (arith, length-append is.done (f ∷ fs)) in
       record { few = omega arith; all_are = λ e. absurd (true≢false (sym e)); not_all = λ e. low; promised = is.promised }
 
--- the next report has told nothing
-pub next_told_nothing : {P : Type 0} (has_told : P → List (ℕ × LineFault) → Type 0) (all : List P) (n : ℕ) (gone rest rest' : List P) (p : P) → gone ++ rest' ≡ all → rest' ≡ p ∷ rest → HaveToldNothing has_told all n → has_told p []
-next_told_nothing has_told all n gone rest rest' p at next are =
+-- the next report has taken nothing
+pub next_told_nothing : {P : Type 0} (has_taken : P → List (ℕ × LineFault) → Type 0) (all : List P) (n : ℕ) (gone rest rest' : List P) (p : P) → gone ++ rest' ≡ all → rest' ≡ p ∷ rest → HaveTakenNothing has_taken all n → has_taken p []
+next_told_nothing has_taken all n gone rest rest' p at next are =
     let e : gone ++ p ∷ rest ≡ all = ap (λ l. gone ++ l) (sym next) ∙ at in
     let low : length gone < n = omega (arith, are.0, ap length e, length-append gone (p ∷ rest)) in
-    subst (λ x. has_told x []) (at_place all gone rest p p (length gone) e refl) (are.1 (length gone) p low)
+    subst (λ x. has_taken x []) (at_place all gone rest p p (length gone) e refl) (are.1 (length gone) p low)
 
 -- the next side has sent nothing
 pub next_is_new : (sides : List Sent) (n : ℕ) (gone rest rest' : List Sent) (s : Sent) → gone ++ rest' ≡ sides → rest' ≡ s ∷ rest → ((k : ℕ) (e : Sent) → k < n → (get_or sides k e).list ≡ []) → length sides ≡ n → s.list ≡ []
@@ -89,22 +89,22 @@ next_is_new sides n gone rest rest' s at next each all =
     sym (ap (λ (x : Sent). x.list) (at_place sides gone rest s s (length gone) e refl)) ∙ each (length gone) s low
 
 -- the next side is planned by the next feed
-pub next_is_planned : {F : Type 0} (tells : F → Option (List ℕ)) (sides : List Sent) (feeds : List F) (gone rest rest' : List Sent) (done left left' : List F) (s : Sent) (f : F) → gone ++ rest' ≡ sides → rest' ≡ s ∷ rest → done ++ left' ≡ feeds → left' ≡ f ∷ left → length gone ≡ length done
-    → ArePlannedBy tells sides feeds → IsPlannedBy (tells f) s
-next_is_planned {F = F} tells sides feeds gone rest rest' done left left' s f at next of more same planned =
+pub next_is_planned : {F : Type 0} (remaining : F → Option (List ℕ)) (sides : List Sent) (feeds : List F) (gone rest rest' : List Sent) (done left left' : List F) (s : Sent) (f : F) → gone ++ rest' ≡ sides → rest' ≡ s ∷ rest → done ++ left' ≡ feeds → left' ≡ f ∷ left → length gone ≡ length done
+    → ArePlannedBy remaining sides feeds → IsPlannedBy (remaining f) s
+next_is_planned {F = F} remaining sides feeds gone rest rest' done left left' s f at next of more same planned =
     let e : gone ++ s ∷ rest ≡ sides = ap (λ (l : List Sent). gone ++ l) (sym next) ∙ at in
     let e' : done ++ f ∷ left ≡ feeds = ap (λ (l : List F). done ++ l) (sym more) ∙ of in
     let low : length done < length feeds = omega (arith, ap length e', length-append done (f ∷ left)) in
-    subst (λ (y : Sent × F). IsPlannedBy (tells y.1) y.0) (λ i. (at_place sides gone rest s s (length done) e same i, at_place feeds done left f f (length done) e' refl i)) (planned (length done) s f low)
+    subst (λ (y : Sent × F). IsPlannedBy (remaining y.1) y.0) (λ i. (at_place sides gone rest s s (length done) e same i, at_place feeds done left f f (length done) e' refl i)) (planned (length done) s f low)
 
 -- each report by its place, once one more is there
-told_left : {P : Type 0} (has_told : P → List (ℕ × LineFault) → Type 0) (ps : List P) (p : P) (i : ℕ) (refused : List (ℕ × LineFault)) → i < length ps → told_at has_told ps i refused → told_at has_told (ps ++ p ∷ []) i refused
-told_left has_told ps p i refused low told = λ d. subst (λ x. has_told x refused) (sym (get_or_append_left ps (p ∷ []) d i low)) (told d)
+told_left : {P : Type 0} (has_taken : P → List (ℕ × LineFault) → Type 0) (ps : List P) (p : P) (i : ℕ) (refused : List (ℕ × LineFault)) → i < length ps → taken_at has_taken ps i refused → taken_at has_taken (ps ++ p ∷ []) i refused
+told_left has_taken ps p i refused low told = λ d. subst (λ x. has_taken x refused) (sym (get_or_append_left ps (p ∷ []) d i low)) (told d)
 
-told_last : {P : Type 0} (has_told : P → List (ℕ × LineFault) → Type 0) (ps : List P) (p : P) (n : ℕ) (refused : List (ℕ × LineFault)) → length ps ≡ n → has_told p refused → told_at has_told (ps ++ p ∷ []) n refused
-told_last has_told ps p n refused is told = λ d. subst (λ x. has_told x refused) (sym (get_or_push ps p d n is)) told
+told_last : {P : Type 0} (has_taken : P → List (ℕ × LineFault) → Type 0) (ps : List P) (p : P) (n : ℕ) (refused : List (ℕ × LineFault)) → length ps ≡ n → has_taken p refused → taken_at has_taken (ps ++ p ∷ []) n refused
+told_last has_taken ps p n refused is told = λ d. subst (λ x. has_taken x refused) (sym (get_or_push ps p d n is)) told
 
--- what was sent is so of what was told
+-- what was sent is so of what was delivered
 sent_as : (before after : Option (List ℕ)) (fails fills : Bool) (piece reads : ℕ) (queue : QueueId) (sender : ℕ) (e : Ended) (r : SenderReport) (was now : List (ℕ × LineFault) → Type 0) → HasKept was now → HasSent before after fails fills piece reads queue sender e r was → HasSent before after fails fills piece reads queue sender e r now
 sent_as before after fails fills piece reads queue sender e r was now kept is = record {
   queue_is = is.queue_is;
@@ -121,40 +121,40 @@ sent_as before after fails fills piece reads queue sender e r was now kept is = 
   sent = is.sent;
 }
 
-module _ {F P : Type 0} (tells : F → Option (List ℕ)) (fails fills : F → Bool) (view : P → SenderReport) (has_told : P → List (ℕ × LineFault) → Type 0) where
-  kept_as : (h : PromisedHandle (Ended × P × F) (Promised F)) (e : Ended) (r : SenderReport) (was now : List (ℕ × LineFault) → Type 0) → HasKept was now → HasKeptIt tells fails fills h e r was → HasKeptIt tells fails fills h e r now
+module _ {F P : Type 0} (remaining : F → Option (List ℕ)) (fails fills : F → Bool) (view : P → SenderReport) (has_taken : P → List (ℕ × LineFault) → Type 0) where
+  kept_as : (h : PromisedHandle (Ended × P × F) (Promised F)) (e : Ended) (r : SenderReport) (was now : List (ℕ × LineFault) → Type 0) → HasKept was now → HasKeptIt remaining fails fills h e r was → HasKeptIt remaining fails fills h e r now
   kept_as h e r was now kept is = (is.0, sent_as _ is.0 _ _ _ _ _ _ e r was now kept is.1)
 
   pub ended_one : (hs : List (PromisedHandle (Ended × P × F) (Promised F))) (es : List Ended) (ps : List P) (h : PromisedHandle (Ended × P × F) (Promised F)) (e : Ended) (p : P)
-      → HaveEnded tells fails fills hs es (map view ps) (told_at has_told ps) → HasKeptIt tells fails fills h e (view p) (has_told p) → HaveEnded tells fails fills (hs ++ h ∷ []) (es ++ e ∷ []) (map view (ps ++ p ∷ [])) (told_at has_told (ps ++ p ∷ []))
+      → HaveEnded remaining fails fills hs es (map view ps) (taken_at has_taken ps) → HasKeptIt remaining fails fills h e (view p) (has_taken p) → HaveEnded remaining fails fills (hs ++ h ∷ []) (es ++ e ∷ []) (map view (ps ++ p ∷ [])) (taken_at has_taken (ps ++ p ∷ []))
   ended_one hs es ps h e p are kept =
       let n : length ps ≡ length hs = (let x = are.reports_are in omega (arith, length-map ps view)) in
       record {
         ends_are = omega (arith, length-append es (e ∷ []), length-append hs (h ∷ []), are.ends_are);
         reports_are = omega (arith, length-map (ps ++ p ∷ []) view, length-append ps (p ∷ []), length-append hs (h ∷ []), n);
-        kept = λ k h₀ e₀ r₀ low. indexed_more (λ i (a : PromisedHandle (Ended × P × F) (Promised F)). HasKeptIt tells fails fills a (get_or (es ++ e ∷ []) i e₀) (get_or (map view (ps ++ p ∷ [])) i r₀) (told_at has_told (ps ++ p ∷ []) i)) hs h
+        kept = λ k h₀ e₀ r₀ low. indexed_more (λ i (a : PromisedHandle (Ended × P × F) (Promised F)). HasKeptIt remaining fails fills a (get_or (es ++ e ∷ []) i e₀) (get_or (map view (ps ++ p ∷ [])) i r₀) (taken_at has_taken (ps ++ p ∷ []) i)) hs h
             (λ i d below.
             let le : i < length es = (let x = are.ends_are in omega arith) in
             let lp : i < length ps = omega arith in
             let lr : i < length (map view ps) = omega (arith, length-map ps view) in
             let a : get_or (es ++ e ∷ []) i e₀ ≡ get_or es i e₀ = get_or_append_left es (e ∷ []) e₀ i le in
             let b : get_or (map view (ps ++ p ∷ [])) i r₀ ≡ get_or (map view ps) i r₀ = ap (λ (l : List SenderReport). get_or l i r₀) (map_push view ps p) ∙ get_or_append_left (map view ps) (view p ∷ []) r₀ i lr in
-            kept_as (get_or hs i d) (get_or (es ++ e ∷ []) i e₀) (get_or (map view (ps ++ p ∷ [])) i r₀) (told_at has_told ps i) (told_at has_told (ps ++ p ∷ []) i) (λ refused. told_left has_told ps p i refused lp)
-            (subst (λ (y : Ended × SenderReport). HasKeptIt tells fails fills (get_or hs i d) y.0 y.1 (told_at has_told ps i)) (λ j. (sym a j, sym b j)) (are.kept i d e₀ r₀ below)))
+            kept_as (get_or hs i d) (get_or (es ++ e ∷ []) i e₀) (get_or (map view (ps ++ p ∷ [])) i r₀) (taken_at has_taken ps i) (taken_at has_taken (ps ++ p ∷ []) i) (λ refused. told_left has_taken ps p i refused lp)
+            (subst (λ (y : Ended × SenderReport). HasKeptIt remaining fails fills (get_or hs i d) y.0 y.1 (taken_at has_taken ps i)) (λ j. (sym a j, sym b j)) (are.kept i d e₀ r₀ below)))
             (let a : get_or (es ++ e ∷ []) (length hs) e₀ ≡ e = get_or_push es e e₀ (length hs) are.ends_are in
             let b : get_or (map view (ps ++ p ∷ [])) (length hs) r₀ ≡ view p = ap (λ (l : List SenderReport). get_or l (length hs) r₀) (map_push view ps p) ∙ get_or_push (map view ps) (view p) r₀ (length hs) are.reports_are in
-            kept_as h (get_or (es ++ e ∷ []) (length hs) e₀) (get_or (map view (ps ++ p ∷ [])) (length hs) r₀) (has_told p) (told_at has_told (ps ++ p ∷ []) (length hs)) (λ refused. told_last has_told ps p (length hs) refused n)
-            (subst (λ (y : Ended × SenderReport). HasKeptIt tells fails fills h y.0 y.1 (has_told p)) (λ j. (sym a j, sym b j)) kept))
+            kept_as h (get_or (es ++ e ∷ []) (length hs) e₀) (get_or (map view (ps ++ p ∷ [])) (length hs) r₀) (has_taken p) (taken_at has_taken (ps ++ p ∷ []) (length hs)) (λ refused. told_last has_taken ps p (length hs) refused n)
+            (subst (λ (y : Ended × SenderReport). HasKeptIt remaining fails fills h y.0 y.1 (has_taken p)) (λ j. (sym a j, sym b j)) kept))
             k h₀ low;
       }
 
   -- the same of the lists that they are kept in
   pub ended_more : (hs : List (PromisedHandle (Ended × P × F) (Promised F))) (es es' : List Ended) (ps ps' : List P) (h : PromisedHandle (Ended × P × F) (Promised F)) (e : Ended) (p : P)
-      → HaveEnded tells fails fills hs es (map view ps) (told_at has_told ps) → HasKeptIt tells fails fills h e (view p) (has_told p) → es' ≡ es ++ e ∷ [] → ps' ≡ ps ++ p ∷ [] → HaveEnded tells fails fills (hs ++ h ∷ []) es' (map view ps') (told_at has_told ps')
+      → HaveEnded remaining fails fills hs es (map view ps) (taken_at has_taken ps) → HasKeptIt remaining fails fills h e (view p) (has_taken p) → es' ≡ es ++ e ∷ [] → ps' ≡ ps ++ p ∷ [] → HaveEnded remaining fails fills (hs ++ h ∷ []) es' (map view ps') (taken_at has_taken ps')
   ended_more hs es es' ps ps' h e p are kept ends reports =
-      subst (λ (y : List Ended × List P). HaveEnded tells fails fills (hs ++ h ∷ []) y.0 (map view y.1) (told_at has_told y.1)) (λ i. (sym ends i, sym reports i)) (ended_one hs es ps h e p are kept)
+      subst (λ (y : List Ended × List P). HaveEnded remaining fails fills (hs ++ h ∷ []) y.0 (map view y.1) (taken_at has_taken y.1)) (λ i. (sym ends i, sym reports i)) (ended_one hs es ps h e p are kept)
 
-  pub ended_all : (hs rest all : List (PromisedHandle (Ended × P × F) (Promised F))) (es : List Ended) (ps : List P) → HaveEnded tells fails fills hs es (map view ps) (told_at has_told ps) → hs ++ rest ≡ all → rest ≡ [] → HaveEnded tells fails fills all es (map view ps) (told_at has_told ps)
+  pub ended_all : (hs rest all : List (PromisedHandle (Ended × P × F) (Promised F))) (es : List Ended) (ps : List P) → HaveEnded remaining fails fills hs es (map view ps) (taken_at has_taken ps) → hs ++ rest ≡ all → rest ≡ [] → HaveEnded remaining fails fills all es (map view ps) (taken_at has_taken ps)
   ended_all hs rest all es ps are is none =
       let e : hs ≡ all = sym (append-nil hs) ∙ ap (λ (l : List (PromisedHandle (Ended × P × F) (Promised F))). hs ++ l) (sym none) ∙ is in
-      subst (λ (l : List (PromisedHandle (Ended × P × F) (Promised F))). HaveEnded tells fails fills l es (map view ps) (told_at has_told ps)) e are
+      subst (λ (l : List (PromisedHandle (Ended × P × F) (Promised F))). HaveEnded remaining fails fills l es (map view ps) (taken_at has_taken ps)) e are

@@ -10,7 +10,7 @@ use Rattle.cmd_types.specs.TextLines.{split_lines}
 use Rattle.cmd_lines.specs.Reader.{Waiting, Continues, Stands}
 use Rattle.cmd_run.specs.declared.ending.Ending.{Ending}
 use Rattle.cmd_run.specs.declared.ending.Ending.TheVariants as ending
-use Rattle.cmd_dispatch.specs.Told.{told, BeginsWith, AreFirst, IsDelivered, IsEnded}
+use Rattle.cmd_dispatch.specs.Delivered.{items_by, BeginsWith, AreFirst, IsDelivered, IsEnded}
 
 pub begins_all : {A : Type 0} (xs : List A) → BeginsWith xs xs
 begins_all xs = ([], sym (append-nil xs))
@@ -46,16 +46,16 @@ pub so_far_first : (text : List ℕ) → BeginsWith (items text) (items_so_far t
 so_far_first text = so_far_at 1 (split_lines text)
 
 -- the first items of a text that ended so come first
-pub first_begun : (tells : Option (List ℕ)) (fails fills : Bool) (piece reads : ℕ) (how : Ending) (text : List ℕ) (given : List Item) → IsEnded tells fails fills piece reads text how → BeginsWith (told how text) given → AreFirst tells fails reads text given
-first_begun tells fails fills piece reads ending.Whole text given is begins = inr (inl (is, begins))
-first_begun tells fails fills piece reads ending.ReadFailed text given is begins = inr (inr (inl is, begins))
-first_begun tells fails fills piece reads ending.TooManyReads text given is begins = inr (inr (inr is.0, begins))
-first_begun tells fails fills piece reads ending.Memory text given is begins = absurd is
-first_begun tells fails fills piece reads ending.QueueRefused text given is begins = absurd is
+pub first_begun : (remaining : Option (List ℕ)) (fails fills : Bool) (piece reads : ℕ) (how : Ending) (text : List ℕ) (given : List Item) → IsEnded remaining fails fills piece reads text how → BeginsWith (items_by how text) given → AreFirst remaining fails reads text given
+first_begun remaining fails fills piece reads ending.Whole text given is begins = inr (inl (is, begins))
+first_begun remaining fails fills piece reads ending.ReadFailed text given is begins = inr (inr (inl is, begins))
+first_begun remaining fails fills piece reads ending.TooManyReads text given is begins = inr (inr (inr is.0, begins))
+first_begun remaining fails fills piece reads ending.Memory text given is begins = absurd is
+first_begun remaining fails fills piece reads ending.QueueRefused text given is begins = absurd is
 
 -- and so do all of them
-pub first_told : (tells : Option (List ℕ)) (fails fills : Bool) (piece reads : ℕ) (how : Ending) (text : List ℕ) → IsEnded tells fails fills piece reads text how → AreFirst tells fails reads text (told how text)
-first_told tells fails fills piece reads how text is = first_begun tells fails fills piece reads how text (told how text) is (begins_all (told how text))
+pub first_told : (remaining : Option (List ℕ)) (fails fills : Bool) (piece reads : ℕ) (how : Ending) (text : List ℕ) → IsEnded remaining fails fills piece reads text how → AreFirst remaining fails reads text (items_by how text)
+first_told remaining fails fills piece reads how text is = first_begun remaining fails fills piece reads how text (items_by how text) is (begins_all (items_by how text))
 
 -- ---- what holds of an answer
 

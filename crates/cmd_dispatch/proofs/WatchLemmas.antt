@@ -1,44 +1,17 @@
 -- What is published of a run, at its beginning and at its end.
-use Rattle.std.proofs.Common.{◌≡◌, inl, inr, ⊎_elim, ℕ, true, List, [], ◌∷◌, ◌++◌, Option, Some, None, Result, Ok, Err, MatchResult, IfOk, IfErr, OnOk, ap, subst, sym, ◌∙◌}
+use Rattle.std.proofs.Common.{◌≡◌, inl, inr, ⊎_elim, List, [], ◌∷◌, ◌++◌, Some, Result, Ok, Err, MatchResult, IfOk, IfErr, OnOk, ap, subst, sym, ◌∙◌}
 use Rattle.cmd_types.specs.declared.entry.Entry.{Entry}
 use Rattle.mon_inventory.specs.Configuration.{Configuration}
-use Rattle.mon_engine.specs.Held.{Held}
 use Rattle.cmd_run.specs.declared.fault.RunCause.{RunCause}
 use Rattle.cmd_run.specs.declared.fault.RunFault.{RunFault}
 use Rattle.cmd_dispatch.specs.declared.report.RunReport.{RunReport}
 use Rattle.cmd_dispatch.specs.declared.running.FailedRun.{FailedRun}
 use Rattle.cmd_run.specs.declared.fault.RunCause.TheVariants as cause
 use Rattle.cmd_dispatch.specs.BoardEnds.{Writing}
-use Rattle.cmd_dispatch.specs.Dispatches.{IsRefusal}
 use Rattle.cmd_dispatch.specs.Runs.{reported, fault_known}
-use Rattle.cmd_dispatch.specs.Told.{BeginsWith}
+use Rattle.cmd_dispatch.specs.Delivered.{BeginsWith}
 use Rattle.cmd_dispatch.specs.Watching.{IsShown, IsBehind}
 use Rattle.cmd_dispatch.proofs.CutLemmas.{begins_twice}
-
--- what is published stands for the journal, whatever failed
-shown_by : (shows : List Entry → Type 0) (fault : Option RunCause) (journal : List Entry) → shows journal → IsShown shows fault journal
-shown_by shows None journal h = h
-shown_by shows (Some cause.BadOptions) journal h = h
-shown_by shows (Some cause.Memory) journal h = inl h
-shown_by shows (Some (cause.Spawn k)) journal h = h
-shown_by shows (Some cause.JournalFull) journal h = h
-shown_by shows (Some cause.QueueLost) journal h = h
-shown_by shows (Some (cause.SenderStopped k)) journal h = h
-shown_by shows (Some cause.Output) journal h = h
-
-pub shown_first : (shows : List Entry → Type 0) (fault : Option RunCause) (journal : List Entry) → shows [] → journal ≡ [] → IsShown shows fault journal
-shown_first shows fault journal h empty = shown_by shows fault journal (subst shows (sym empty) h)
-
--- a refusal of one more entry
-pub shown_refused : (shows : List Entry → Type 0) (c : RunCause) (limit : ℕ) (e : Entry) (was now : List Entry) (m m' : Held) → IsRefusal c limit e was m now m' → shows was → IsShown shows (Some c) now
-shown_refused shows cause.Memory limit e was now m m' is h =
-    ⊎_elim (λ (x : (now ≡ was) × (m' ≡ m)). inl (subst shows (sym x.0) h)) (λ (x : (now ≡ was ++ e ∷ []) × (m'.broken ≡ true) × (m'.applied ≡ m.applied)). inr (was, e, h, x.0)) is
-shown_refused shows cause.JournalFull limit e was now m m' is h = subst shows (sym is.0) h
-shown_refused shows cause.BadOptions limit e was now m m' is h = absurd is
-shown_refused shows (cause.Spawn k) limit e was now m m' is h = absurd is
-shown_refused shows cause.QueueLost limit e was now m m' is h = absurd is
-shown_refused shows (cause.SenderStopped k) limit e was now m m' is h = absurd is
-shown_refused shows cause.Output limit e was now m m' is h = absurd is
 
 -- what is published stands for the journal, by why the run has no report
 pub shown_known : (shows : List Entry → Type 0) (c : RunCause) (journal : List Entry) → IsShown shows (fault_known (Some c)) journal → IsShown shows (Some c) journal
@@ -108,9 +81,3 @@ pub seen_begins : (out : Result RunReport RunFault) (published : List Entry) →
     → (seen : List Entry) → BeginsWith published seen → MatchResult out (λ r. BeginsWith r.journal.entries seen) (λ e. BeginsWith e.journal.entries seen)
 seen_begins (Ok r) published is late seen more = subst (λ (l : List Entry). BeginsWith l seen) is more
 seen_begins (Err e) published is late seen more = begun_behind e.cause e.journal.entries published seen late more
-
--- what is shown of a run, of the inventory that it was made of
-pub shown_of : (shows : Configuration → List Entry → Type 0) (inv inv' : Configuration) (run : Result RunReport FailedRun) → inv ≡ inv'
-    → MatchResult run (λ r. shows inv r.journal.entries) (λ e. IsShown (shows inv) (Some e.fault.cause) e.fault.journal.entries)
-    → MatchResult run (λ r. shows inv' r.journal.entries) (λ e. IsShown (shows inv') (Some e.fault.cause) e.fault.journal.entries)
-shown_of shows inv inv' run same h = subst (λ (i : Configuration). MatchResult run (λ r. shows i r.journal.entries) (λ e. IsShown (shows i) (Some e.fault.cause) e.fault.journal.entries)) same h

@@ -7,7 +7,7 @@ use Rattle.atomic_table.specs.Table.{State}
 use Rattle.cmd_types.specs.declared.entry.Entry.{Entry}
 use Rattle.mon_inventory.specs.Configuration.{Configuration}
 use Rattle.cmd_dispatch.specs.declared.board_rule.SeatView.{SeatView}
-use Rattle.cmd_dispatch.specs.Told.{BeginsWith}
+use Rattle.cmd_dispatch.specs.Delivered.{BeginsWith}
 use Rattle.cmd_dispatch.specs.BoardViews.{ArePrefixes, Shows}
 
 -- ---- of private contracts alone

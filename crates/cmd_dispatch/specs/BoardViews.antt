@@ -8,7 +8,7 @@ use Rattle.mon_inventory.specs.Configuration.{Configuration, nothing}
 use Rattle.mon_engine.specs.Figures.{figures}
 use Rattle.mon_engine.specs.Step.{meaning}
 use Rattle.cmd_dispatch.specs.declared.board_rule.SeatView.{SeatView}
-use Rattle.cmd_dispatch.specs.Told.{BeginsWith}
+use Rattle.cmd_dispatch.specs.Delivered.{BeginsWith}
 use Rattle.cmd_dispatch.specs.Word.{IsSmall, word}
 
 -- ---- of private contracts alone
@@ -21,7 +21,7 @@ writer_view inv published kept = record { inventory = inv; writes = true; publis
 abbrev pub reader_view : Configuration → List Entry → SeatView
 reader_view inv seen = record { inventory = inv; writes = false; published = []; kept = []; reads = true; seen = seen }
 
--- a seat that was handed in knows nothing
+-- a seat that was given back knows nothing
 abbrev pub spent : SeatView
 spent = record { inventory = nothing; writes = false; published = []; kept = []; reads = false; seen = [] }
 

@@ -1,4 +1,4 @@
--- What a run that tells as it goes promises.
+-- What a run that prints while it runs promises.
 use Rattle.std.specs.Prelude.{◌≡◌, ◌<◌, ◌≤◌, ◌⊎◌, ℕ, List, [], length, map, slice_index_or, Option, None, Some, Result, Err, MatchResult}
 use Rattle.std.specs.Io.KnownBytes.{Appends}
 use Rattle.cmd_types.specs.declared.entry.Entry.{Entry}
@@ -18,25 +18,25 @@ use Rattle.cmd_dispatch.specs.RunCalls.{RunCall}
 use Rattle.cmd_dispatch.specs.Runs.{Outcome, taken_outcome, HasFed, HasPartFed}
 use Rattle.cmd_dispatch.specs.Tellings.{HasToldPart, AppendsBeginning}
 
--- a run that tells and came to its end: what was taken of each feed is its list of commands, and what was told is
--- what is told of all that was taken, in one order, and nothing else
+-- a run that prints and came to its end: what was taken of each feed is its list of commands, and what was printed is
+-- what all that was taken prints, in one order, and nothing else
 pub record HasFollowed (call : RunCall) (clock : Option ℕ) (before now : Option (List ℕ)) (run : Outcome) (refused : ℕ → List (ℕ × LineFault) → Type 0) : Type 0 where
   pub fed : HasFed call.sources run.reports refused run.settled
   pub told : Appends before now (told_text call.inventory clock (initial call.inventory) (entries run.settled.list))
   pub stands : HasToldFrom call.inventory (initial call.inventory) (entries run.settled.list) run.monitor
   pub within : length (entries run.settled.list) ≤ call.limit
 
--- a run that tells and failed: the first of the entries that were handed to its log were told; the cause is a full
--- journal only where more entries than the limit were handed on
+-- a run that prints and failed: the first of the entries that were passed to its log were printed; the cause is a full
+-- journal only where more entries than the limit were passed to the log
 pub record HasPartFollowed (call : RunCall) (clock : Option ℕ) (before now : Option (List ℕ)) (cause : RunCause) (reports : List SenderReport) (refused : ℕ → List (ℕ × LineFault) → Type 0) : Type 0 where
-  pub handed : List Entry
+  pub logged : List Entry
   pub settled : Settlement
-  pub fed : HasPartFed call.sources cause handed reports refused settled
-  pub told : HasToldPart call.inventory clock handed cause before now
-  pub full : cause ≡ JournalFull → call.limit < length handed
+  pub fed : HasPartFed call.sources cause logged reports refused settled
+  pub told : HasToldPart call.inventory clock logged cause before now
+  pub full : cause ≡ JournalFull → call.limit < length logged
 
--- how a run that tells may fail: as HasPartFollowed; or nothing was started, and nothing told; or all was taken, and
--- the last text was not told whole
+-- how a run that prints may fail: as HasPartFollowed; or nothing was started, and nothing printed; or all was taken, and
+-- the last text was not printed whole
 abbrev pub HasStopped : RunCall → (clock : Option ℕ) → (before now : Option (List ℕ)) → RunCause → List SenderReport → (refused : ℕ → List (ℕ × LineFault) → Type 0) → Type 0
 HasStopped call clock before now cause reports refused =
     HasPartFollowed call clock before now cause reports refused
@@ -48,9 +48,9 @@ module _ {A : Type 0} where
   abbrev pub followed_outcome : Followed A → Outcome
   followed_outcome followed = taken_outcome followed.monitor (map (λ f. f.report) followed.feeds.items) followed.settled
 
-  -- what the attendant of the feed at each place has told of refused lines, of which its report lists none
-  abbrev pub attended_at : (has_told : A → List (ℕ × LineFault) → Type 0) → List (FollowedFeed A) → ℕ → List (ℕ × LineFault) → Type 0
-  attended_at has_told feeds k refused = (f : FollowedFeed A) → has_told (slice_index_or feeds k f).attendant refused × ((slice_index_or feeds k f).report.refused.items ≡ [])
+  -- the refused lines that the attendant of the feed at each place has taken, of which its report lists none
+  abbrev pub attended_at : (has_taken : A → List (ℕ × LineFault) → Type 0) → List (FollowedFeed A) → ℕ → List (ℕ × LineFault) → Type 0
+  attended_at has_taken feeds k refused = (f : FollowedFeed A) → has_taken (slice_index_or feeds k f).attendant refused × ((slice_index_or feeds k f).report.refused.items ≡ [])
 
 -- ---- of private contracts alone
 
@@ -59,8 +59,8 @@ module _ {A : Type 0} where
   abbrev pub ListNothing : List (FollowedFeed A) → Type 0
   ListNothing feeds = map (λ f. f.report.refused.items) feeds ≡ map (λ _. []) feeds
 
-  -- the answer of a run that told, by its cause: made of the report that it would have, of the text that waited, and of
-  -- what was told before and is told now
+  -- the result of a run that prints, by its cause: made of the report that it would have, of the text that waited, and of
+  -- what was printed before and is printed now
   abbrev pub IsFollowedAs : (cause : Option RunCause) → Followed A → (before : Option (List ℕ)) → (waiting : List ℕ) → (now : Option (List ℕ)) → Result (Followed A) (FollowFault A) → Type 0
   IsFollowedAs None followed before waiting now run = MatchResult run
       (λ r. (r ≡ followed) × Appends before now waiting)

@@ -1,7 +1,7 @@
 -- The definitions of a run.
 pub mod Feeds
 pub mod RunCalls
-pub mod Told
+pub mod Delivered
 pub mod Planned
 pub mod Sends
 pub mod Threads

@@ -9,8 +9,8 @@ use Rattle.cmd_queue.specs.Sides.{Sent}
 use Rattle.cmd_run.specs.Senders.{AreOf}
 
 -- the commands that the text of a feed spells, where the text is known
-abbrev pub spelled : (tells : Option (List ℕ)) → Option (List Timed)
-spelled tells = option_map (λ text. commands (items text)) tells
+abbrev pub spelled : (remaining : Option (List ℕ)) → Option (List Timed)
+spelled remaining = option_map (λ text. commands (items text)) remaining
 
 -- the entries of a run with this plan: each is of one of its senders, and they are of the plan
 abbrev pub AreOfRun : Plan → List Entry → Type 0
@@ -18,13 +18,13 @@ AreOfRun plan entries = AreOf (length plan) entries × AreOfPlan plan entries
 
 module _ {F : Type 0} where
   -- the plan of a run over these feeds: of each the commands that its text spells
-  abbrev pub plan_of : (tells : F → Option (List ℕ)) → List F → Plan
-  plan_of tells feeds = map (λ feed. spelled (tells feed)) feeds
+  abbrev pub plan_of : (remaining : F → Option (List ℕ)) → List F → Plan
+  plan_of remaining feeds = map (λ feed. spelled (remaining feed)) feeds
 
   -- The feeds of a run may have sent these entries: each is of one of the feeds, and of each feed whose text is known its
   -- commands among them are the first of those that the text spells, in order and each once
-  abbrev pub AreOfFeeds : (tells : F → Option (List ℕ)) → List F → List Entry → Type 0
-  AreOfFeeds tells feeds entries = AreOfRun (plan_of tells feeds) entries
+  abbrev pub AreOfFeeds : (remaining : F → Option (List ℕ)) → List F → List Entry → Type 0
+  AreOfFeeds remaining feeds entries = AreOfRun (plan_of remaining feeds) entries
 
 -- ---- of private contracts alone
 
@@ -33,5 +33,5 @@ abbrev pub IsOfPlan : Sent → Type 0
 IsOfPlan side = ComeFirst (planned_of side.queue.plan side.sender) (commands_in side.list)
 
 -- where the plan of its queue knows the commands of this sender, they are those that the text of its feed spells
-abbrev pub IsPlannedBy : (tells : Option (List ℕ)) → Sent → Type 0
-IsPlannedBy tells side = IfSome (planned_of side.queue.plan side.sender) (λ all. spelled tells ≡ Some all)
+abbrev pub IsPlannedBy : (remaining : Option (List ℕ)) → Sent → Type 0
+IsPlannedBy remaining side = IfSome (planned_of side.queue.plan side.sender) (λ all. spelled remaining ≡ Some all)

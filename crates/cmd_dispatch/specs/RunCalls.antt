@@ -6,7 +6,7 @@ use Rattle.mon_inventory.specs.Configuration.{Configuration}
 -- A feed as a run reads it: the bytes that its reads give, where they are known; whether a read may fail; whether each read gives as
 -- many bytes as it has room for, while there are so many; the room of each read, in bytes; and the most reads
 pub record Source : Type 0 where
-  pub tells : Option (List ℕ)
+  pub remaining : Option (List ℕ)
   pub fails : Bool
   pub fills : Bool
   pub piece : ℕ
@@ -20,12 +20,12 @@ pub record RunCall : Type 0 where
 
 module _ {F : Type 0} where
   -- a reader of a call, by what is known of it, read as the options say
-  abbrev pub read_as : (tells : F → Option (List ℕ)) → (fails fills : F → Bool) → RunOptions → F → Source
-  read_as tells fails fills options reader = record { tells = tells reader; fails = fails reader; fills = fills reader; piece = options.piece; reads = options.reads }
+  abbrev pub read_as : (remaining : F → Option (List ℕ)) → (fails fills : F → Bool) → RunOptions → F → Source
+  read_as remaining fails fills options reader = record { remaining = remaining reader; fails = fails reader; fills = fills reader; piece = options.piece; reads = options.reads }
 
-  abbrev pub sources : (tells : F → Option (List ℕ)) → (fails fills : F → Bool) → RunOptions → (readers : List F) → List Source
-  sources tells fails fills options readers = map (read_as tells fails fills options) readers
+  abbrev pub sources : (remaining : F → Option (List ℕ)) → (fails fills : F → Bool) → RunOptions → (readers : List F) → List Source
+  sources remaining fails fills options readers = map (read_as remaining fails fills options) readers
 
   -- what a call asks for
-  abbrev pub run_call : (tells : F → Option (List ℕ)) → (fails fills : F → Bool) → RunOptions → (readers : List F) → Configuration → RunCall
-  run_call tells fails fills options readers inv = record { sources = sources tells fails fills options readers; limit = options.limit; inventory = inv }
+  abbrev pub run_call : (remaining : F → Option (List ℕ)) → (fails fills : F → Bool) → RunOptions → (readers : List F) → Configuration → RunCall
+  run_call remaining fails fills options readers inv = record { sources = sources remaining fails fills options readers; limit = options.limit; inventory = inv }

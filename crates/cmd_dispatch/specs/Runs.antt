@@ -22,7 +22,7 @@ use Rattle.cmd_dispatch.specs.declared.report.RunReport.{RunReport}
 use Rattle.cmd_dispatch.specs.declared.running.FailedRun.{FailedRun}
 use Rattle.cmd_dispatch.specs.declared.unkept.UnkeptReport.{UnkeptReport}
 use Rattle.cmd_dispatch.specs.declared.unkept.UnkeptFault.{UnkeptFault}
-use Rattle.cmd_dispatch.specs.Told.{told, BeginsWith, MayBreakOff, IsAll, IsDelivered, IsEnded}
+use Rattle.cmd_dispatch.specs.Delivered.{items_by, BeginsWith, MayBreakOff, IsAll, IsDelivered, IsEnded}
 use Rattle.cmd_run.specs.Senders.{AreOf}
 use Rattle.cmd_dispatch.specs.RunCalls.{Source, RunCall}
 use Rattle.cmd_dispatch.specs.Dispatches.{AreTakenOf, Means}
@@ -50,21 +50,21 @@ unkept_outcome report = taken_outcome report.monitor report.senders.items report
 
 -- Of the sender k, which read this feed: the journal restricted to k is exactly the list of
 -- commands that its text spells, in order and each once, and its report is of that text
-pub record IsToldBy (source : Source) (k : ℕ) (journal : List Entry) (report : SenderReport) (are_refused : List (ℕ × LineFault) → Type 0) : Type 0 where
+pub record IsReportedBy (source : Source) (k : ℕ) (journal : List Entry) (report : SenderReport) (are_refused : List (ℕ × LineFault) → Type 0) : Type 0 where
   -- the bytes that its reader delivered
   pub text : List ℕ
-  pub delivered : IsDelivered source.tells source.piece source.reads text
-  pub ended : IsEnded source.tells source.fails source.fills source.piece source.reads text report.ending
-  pub journaled : of_sender k journal ≡ entries_of k (commands (told report.ending text))
-  pub accepted : report.accepted ≡ length (commands (told report.ending text))
-  pub refused : are_refused (refusals (told report.ending text))
+  pub delivered : IsDelivered source.remaining source.piece source.reads text
+  pub ended : IsEnded source.remaining source.fails source.fills source.piece source.reads text report.ending
+  pub journaled : of_sender k journal ≡ entries_of k (commands (items_by report.ending text))
+  pub accepted : report.accepted ≡ length (commands (items_by report.ending text))
+  pub refused : are_refused (refusals (items_by report.ending text))
 
 -- the refused lines are those that the report lists
 abbrev pub are_listed : SenderReport → List (ℕ × LineFault) → Type 0
 are_listed report refused = report.refused.items ≡ refused
 
-abbrev pub IsTold : Source → (k : ℕ) → (journal : List Entry) → (report : SenderReport) → Type 0
-IsTold source k journal report = IsToldBy source k journal report (are_listed report)
+abbrev pub IsReported : Source → (k : ℕ) → (journal : List Entry) → (report : SenderReport) → Type 0
+IsReported source k journal report = IsReportedBy source k journal report (are_listed report)
 
 -- What was taken of each feed is its entries in the journal and then its close mark, with the number of commands that it
 -- reports, and nothing was taken that is of no feed
@@ -74,8 +74,8 @@ pub record HaveClosedWith (readers : ℕ) (journal : List Entry) (reports : List
   pub of_no_other : AreTakenOf readers settled.list
 
 -- IsToldBy holds of each feed and the report at its place
-abbrev pub AreTold : List Source → (journal : List Entry) → List SenderReport → Type 0
-AreTold sources journal reports = (k : ℕ) (s : Source) (r : SenderReport) → k < length sources → IsTold (slice_index_or sources k s) k journal (slice_index_or reports k r)
+abbrev pub AreReported : List Source → (journal : List Entry) → List SenderReport → Type 0
+AreReported sources journal reports = (k : ℕ) (s : Source) (r : SenderReport) → k < length sources → IsReported (slice_index_or sources k s) k journal (slice_index_or reports k r)
 
 -- a run that has a report: what was asked of it, and what came of it
 pub record HasRun (call : RunCall) (run : Outcome) : Type 0 where
@@ -87,12 +87,12 @@ pub record HasRun (call : RunCall) (run : Outcome) : Type 0 where
   pub alone : length call.sources ≡ 1 → of_sender 0 run.journal ≡ run.journal
   pub known : AreOf (length call.sources) run.journal
   pub one_each : length run.reports ≡ length call.sources
-  pub told_are : AreTold call.sources run.journal run.reports
+  pub reported_are : AreReported call.sources run.journal run.reports
   pub means : Means call.inventory run.journal run.monitor
 
 -- ---- the end of a run
 
--- The first sender that stopped, for want of memory: the queue refused no sender
+-- The first sender that stopped, since memory ran out: the queue refused no sender
 pub record IsFirstStopped (k : ℕ) (reports : List SenderReport) : Type 0 where
   pub known : k < length reports
   pub stopped : (r : SenderReport) → (slice_index_or reports k r).ending ≡ ending.Memory
@@ -123,18 +123,18 @@ IsLimitAfter limit _ reports found = found ≡ limit
 pub record IsBegunBy (source : Source) (cause : RunCause) (k : ℕ) (journal : List Entry) (report : SenderReport) (are_refused : List (ℕ × LineFault) → Type 0) : Type 0 where
   -- the bytes that its reader delivered
   pub text : List ℕ
-  pub delivered : IsDelivered source.tells source.piece source.reads text
+  pub delivered : IsDelivered source.remaining source.piece source.reads text
   pub accepted : report.accepted ≤ length (commands (items text))
-  -- a last line without its line feed was taken only where all was delivered that the reader tells
-  pub unfinished : IsAll source.tells text ⊎ (report.accepted ≤ length (commands (items_so_far text)))
+  -- a last line without its line feed was taken only where the reader delivered all that it has
+  pub unfinished : IsAll source.remaining text ⊎ (report.accepted ≤ length (commands (items_so_far text)))
   pub journaled : BeginsWith (entries_of k (take report.accepted (commands (items text)))) (of_sender k journal)
   pub all_journaled : (j : ℕ) → cause ≡ SenderStopped j → of_sender k journal ≡ entries_of k (take report.accepted (commands (items text)))
   -- the first were refused, with those of a broken text only where it may have broken off
   pub refused : (first : List (ℕ × LineFault)) × are_refused first × (BeginsWith (refusals (items text)) first ⊎ (MayBreakOff source.fails source.reads text × BeginsWith (refusals (items_cut text)) first))
   -- a complete ending comes only as in a run that has a report
-  pub ended : is_complete report.ending ≡ true → IsEnded source.tells source.fails source.fills source.piece source.reads text report.ending
-  pub all_accepted : is_complete report.ending ≡ true → report.accepted ≡ length (commands (told report.ending text))
-  pub all_refused : is_complete report.ending ≡ true → are_refused (refusals (told report.ending text))
+  pub ended : is_complete report.ending ≡ true → IsEnded source.remaining source.fails source.fills source.piece source.reads text report.ending
+  pub all_accepted : is_complete report.ending ≡ true → report.accepted ≡ length (commands (items_by report.ending text))
+  pub all_refused : is_complete report.ending ≡ true → are_refused (refusals (items_by report.ending text))
 
 abbrev pub IsBegun : Source → (cause : RunCause) → (k : ℕ) → (journal : List Entry) → (report : SenderReport) → Type 0
 IsBegun source cause k journal report = IsBegunBy source cause k journal report (are_listed report)
@@ -154,12 +154,12 @@ pub record HasFailed (call : RunCall) (cause : RunCause) (journal : List Entry) 
 
 -- ---- a run, whatever its log
 
--- what is known of the reports by the cause, and of the entries that were handed to the log
-abbrev pub IsEndedBy : (readers : ℕ) → RunCause → (handed : List Entry) → List SenderReport → Type 0
-IsEndedBy readers BadOptions handed reports = ⊥
-IsEndedBy readers (Spawn k) handed reports = (handed ≡ []) × (length reports ≡ k) × (k < readers)
-IsEndedBy readers (SenderStopped k) handed reports = (length reports ≡ readers) × IsFirstStopped k reports
-IsEndedBy readers cause handed reports = (length reports ≡ readers) × (length handed ≤ sum_by (λ r. r.accepted) reports)
+-- what is known of the reports by the cause, and of the entries that were passed to the log
+abbrev pub IsEndedBy : (readers : ℕ) → RunCause → (logged : List Entry) → List SenderReport → Type 0
+IsEndedBy readers BadOptions logged reports = ⊥
+IsEndedBy readers (Spawn k) logged reports = (logged ≡ []) × (length reports ≡ k) × (k < readers)
+IsEndedBy readers (SenderStopped k) logged reports = (length reports ≡ readers) × IsFirstStopped k reports
+IsEndedBy readers cause logged reports = (length reports ≡ readers) × (length logged ≤ sum_by (λ r. r.accepted) reports)
 
 -- the close mark of each of so many senders was taken
 abbrev pub HaveAllClosed : (readers : ℕ) → Settlement → Type 0
@@ -184,15 +184,15 @@ pub record HasFed (sources : List Source) (reports : List SenderReport) (refused
   pub alone : length sources ≡ 1 → of_sender 0 (entries settled.list) ≡ entries settled.list
   pub known : AreOf (length sources) (entries settled.list)
   pub one_each : length reports ≡ length sources
-  pub told_are : (k : ℕ) (s : Source) (r : SenderReport) → k < length sources → IsToldBy (slice_index_or sources k s) k (entries settled.list) (slice_index_or reports k r) (refused k)
+  pub reported_are : (k : ℕ) (s : Source) (r : SenderReport) → k < length sources → IsReportedBy (slice_index_or sources k s) k (entries settled.list) (slice_index_or reports k r) (refused k)
 
--- a run of these feeds that failed: what was taken, of which these entries were handed to the log
-pub record HasPartFed (sources : List Source) (cause : RunCause) (handed : List Entry) (reports : List SenderReport) (refused : ℕ → List (ℕ × LineFault) → Type 0) (settled : Settlement) : Type 0 where
+-- a run of these feeds that failed: what was taken, of which these entries were passed to the log
+pub record HasPartFed (sources : List Source) (cause : RunCause) (logged : List Entry) (reports : List SenderReport) (refused : ℕ → List (ℕ × LineFault) → Type 0) (settled : Settlement) : Type 0 where
   pub few : length reports ≤ length sources
-  pub known : AreOf (length reports) handed
-  pub ended : IsEndedBy (length sources) cause handed reports
-  pub begun : (k : ℕ) (s : Source) (r : SenderReport) → k < length reports → IsBegunBy (slice_index_or sources k s) cause k handed (slice_index_or reports k r) (refused k)
-  pub taken : IsPartSettled (length sources) cause handed reports settled
+  pub known : AreOf (length reports) logged
+  pub ended : IsEndedBy (length sources) cause logged reports
+  pub begun : (k : ℕ) (s : Source) (r : SenderReport) → k < length reports → IsBegunBy (slice_index_or sources k s) cause k logged (slice_index_or reports k r) (refused k)
+  pub taken : IsPartSettled (length sources) cause logged reports settled
 
 -- ---- of private contracts alone
 
@@ -210,9 +210,9 @@ fault_known (Some cause) = Some cause
 
 -- a run of these feeds that came to its end or failed, and what its log holds
 pub record HasEnded (sources : List Source) (holds : Option RunCause → List Entry → Type 0) (cause : Option RunCause) (reports : List SenderReport) (refused : ℕ → List (ℕ × LineFault) → Type 0) (settled : Settlement) : Type 0 where
-  pub handed : List Entry
-  pub held : holds (fault_known cause) handed
-  pub ran : MatchOption cause ((handed ≡ entries settled.list) × HasFed sources reports refused settled) (λ c. HasPartFed sources c handed reports refused settled)
+  pub logged : List Entry
+  pub held : holds (fault_known cause) logged
+  pub ran : MatchOption cause ((logged ≡ entries settled.list) × HasFed sources reports refused settled) (λ c. HasPartFed sources c logged reports refused settled)
 
 -- IsPartSettled where a queue was settled; else nothing is journaled and nothing reported
 abbrev pub IsSettledAs : (readers : ℕ) → RunCause → (journal : List Entry) → List SenderReport → Option Settlement → Type 0

@@ -22,7 +22,7 @@ use Rattle.cmd_run.specs.declared.ending.SenderReport.{SenderReport}
 use Rattle.cmd_dispatch.specs.declared.feed.TheConstants.{LONGEST_MADE}
 use Rattle.cmd_dispatch.specs.declared.sender.Sending.{Sending}
 use Rattle.cmd_dispatch.specs.Planned.{IsOfPlan}
-use Rattle.cmd_dispatch.specs.Told.{told, BeginsWith, FillsPieces, IsEnded, AreFirst}
+use Rattle.cmd_dispatch.specs.Delivered.{items_by, BeginsWith, FillsPieces, IsEnded, AreFirst}
 
 -- ---- of private contracts alone
 
@@ -36,10 +36,10 @@ in_all how sender sent = sent ++ Closed sender (length sent) ∷ []
 
 -- which items of a text were given, by how the sender ended: all of them, or the first where it
 -- stopped
-abbrev pub AreGiven : (tells : Option (List ℕ)) → (fails fills : Bool) → (piece reads : ℕ) → (text : List ℕ) → Ending → List Item → Type 0
-AreGiven tells fails fills piece reads text ending.Memory given = AreFirst tells fails reads text given
-AreGiven tells fails fills piece reads text ending.QueueRefused given = AreFirst tells fails reads text given
-AreGiven tells fails fills piece reads text how given = (given ≡ told how text) × IsEnded tells fails fills piece reads text how
+abbrev pub AreGiven : (remaining : Option (List ℕ)) → (fails fills : Bool) → (piece reads : ℕ) → (text : List ℕ) → Ending → List Item → Type 0
+AreGiven remaining fails fills piece reads text ending.Memory given = AreFirst remaining fails reads text given
+AreGiven remaining fails fills piece reads text ending.QueueRefused given = AreFirst remaining fails reads text given
+AreGiven remaining fails fills piece reads text how given = (given ≡ items_by how text) × IsEnded remaining fails fills piece reads text how
 
 -- which of the commands of these items were put into the queue: all of them, or the first where the
 -- queue refused
@@ -47,9 +47,9 @@ abbrev pub ArePut : Ending → (commands put : List Timed) → Type 0
 ArePut ending.QueueRefused commands put = BeginsWith commands put
 ArePut how commands put = put ≡ commands
 
--- A sender of this queue with a feed that told these bytes before and tells these afterwards: the text
+-- A sender of this queue with a feed that had these bytes left before and has these left afterwards: the text
 -- is all that its reads gave, and of its items it sent the commands, reports the number of these, and
--- told the refusals
+-- passed the refusals to its attendant
 pub record HasSent (before after : Option (List ℕ)) (fails fills : Bool) (piece reads : ℕ) (queue : QueueId) (sender : ℕ) (end : Ended) (report : SenderReport) (refused : List (ℕ × LineFault) → Type 0) : Type 0 where
   pub queue_is : end.queue ≡ queue
   pub sender_is : end.sender ≡ sender
@@ -66,7 +66,7 @@ pub record HasSent (before after : Option (List ℕ)) (fails fills : Bool) (piec
 
 -- ---- while it reads
 
--- the refused lines that were told stay told
+-- the refused lines that were taken stay taken
 abbrev pub HasKept : (before now : List (ℕ × LineFault) → Type 0) → Type 0
 HasKept before now = (refused : List (ℕ × LineFault)) → before refused → now refused
 
@@ -84,10 +84,10 @@ module _ {P : Type 0} where
   HasRoom sending = (length sending.gathered.items < MOST_TOGETHER) × (length sending.gathered.items < vec_capacity sending.gathered)
 
   -- nothing has changed but that gathered commands may have been sent
-  abbrev pub IsSame : (has_told : P → List (ℕ × LineFault) → Type 0) → (old new : Sending P) → Type 0
-  IsSame has_told old new = (ahead new ≡ ahead old) × (new.lines ≡ old.lines) × HasKept (has_told old.report) (has_told new.report)
+  abbrev pub IsSame : (has_taken : P → List (ℕ × LineFault) → Type 0) → (old new : Sending P) → Type 0
+  IsSame has_taken old new = (ahead new ≡ ahead old) × (new.lines ≡ old.lines) × HasKept (has_taken old.report) (has_taken new.report)
 
--- of these items the commands were sent, in order, and the refusals told
+-- of these items the commands were sent, in order, and the refusals taken by the attendant
 pub record HasPassedOn (given : List Item) (side : Sent) (refused : List (ℕ × LineFault) → Type 0) : Type 0 where
   pub sent : side.list ≡ all_sent (entries_of side.sender (commands given))
   pub told : refused (refusals given)
@@ -121,7 +121,7 @@ KeepsPlan lines side refused = (text : List ℕ) × IsGiving text lines side ref
 abbrev pub ReadsInPlan : (all : List ℕ → List Item) → (lines : Waiting) (side : Sent) (refused : List (ℕ × LineFault) → Type 0) → Type 0
 ReadsInPlan all lines side refused = (text : List ℕ) × IsReading text lines side refused × HasInPlan side (all text)
 
--- Of a feed that told these bytes before and tells these now, so many reads delivered a text, each at
+-- Of a feed that had these bytes left before and has these left now, so many reads delivered a text, each at
 -- least a byte and at most a piece, and a whole one before the end where the feed fills each piece; and
 -- all items that are known of it were passed on
 pub record IsFeeding (before now : Option (List ℕ)) (fills : Bool) (piece reads : ℕ) (lines : Waiting) (side : Sent) (refused : List (ℕ × LineFault) → Type 0) : Type 0 where
@@ -136,7 +136,7 @@ pub record IsFeeding (before now : Option (List ℕ)) (fills : Bool) (piece read
 abbrev pub IsCovered : Waiting → Sent → Type 0
 IsCovered lines side = length side.list + length lines.pending ≤ lines.fed
 
--- Of a feed that told these bytes before and tells these now, at most so many commands were made, whose lines are a text;
+-- Of a feed that had these bytes left before and has these left now, at most so many commands were made, whose lines are a text;
 -- and all items of the text were passed on, however it ends
 pub record IsMaking (before now : Option (List ℕ)) (many : ℕ) (side : Sent) (refused : List (ℕ × LineFault) → Type 0) : Type 0 where
   pub text : List ℕ
@@ -148,8 +148,8 @@ pub record IsMaking (before now : Option (List ℕ)) (many : ℕ) (side : Sent) 
 
 -- ---- what the steps of a thread have done
 
--- All that the reads of a feed gave is a text that ended so, by what the feed told before and tells after
--- them; and all items that are known of it while it may go on were passed on
+-- All that the reads of a feed gave is a text that ended so, by what the feed had left before and has left after
+-- them; and all items that are known of it while it may continue were passed on
 pub record HasReadText (before after : Option (List ℕ)) (fails fills : Bool) (piece reads : ℕ) (how : Ending) (lines : Waiting) (side : Sent) (refused : List (ℕ × LineFault) → Type 0) : Type 0 where
   pub text : List ℕ
   pub consumed : Consumes before after text
@@ -163,7 +163,7 @@ pub record HasRead (before after : Option (List ℕ)) (fails fills : Bool) (piec
   pub consumed : Consumes before after text
   pub bound : length text ≤ reads * piece
   pub ended : IsEnded before fails fills piece reads text how
-  pub passed : HasPassedOn (told how text) side refused
+  pub passed : HasPassedOn (items_by how text) side refused
 
 -- The first items were passed on of a text that is all that the reads gave
 pub record IsPartRead (before after : Option (List ℕ)) (fails : Bool) (piece reads : ℕ) (side : Sent) (refused : List (ℕ × LineFault) → Type 0) : Type 0 where

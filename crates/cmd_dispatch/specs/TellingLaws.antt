@@ -1,4 +1,4 @@
--- Proofs that a log that tells is a log, which its laws cite.
+-- Proofs that a log that prints is a log, which its laws cite.
 use Rattle.std.specs.Prelude.{◌≡◌, ◌<◌, ◌≤◌, ℕ, List, [], ◌∷◌, ◌++◌, length, Option, Some, None}
 use Rattle.std.specs.List.{flat_map}
 use Rattle.std.specs.Io.KnownBytes.{Appends}
@@ -18,7 +18,7 @@ use Rattle.mon_engine.specs.Step.{step}
 use Rattle.mon_engine.specs.Telling.{told_text, tellings, telling_line, news_between, is_clock}
 use Rattle.cmd_run.specs.declared.fault.RunCause.{RunCause}
 use Rattle.cmd_run.specs.declared.fault.RunCause.TheVariants as cause
-use Rattle.cmd_dispatch.specs.Told.{BeginsWith}
+use Rattle.cmd_dispatch.specs.Delivered.{BeginsWith}
 use Rattle.cmd_dispatch.specs.Dispatches.{IsOfLog}
 use Rattle.cmd_dispatch.specs.Tellings.{IsTelling, IsToldBy, IsWithin, MayTell, TextAllowed}
 
@@ -27,7 +27,7 @@ use Rattle.cmd_dispatch.specs.Tellings.{IsTelling, IsToldBy, IsWithin, MayTell, 
 pub few_of_sender : (s : ℕ) (entries : List Entry) → length (of_sender s entries) ≤ length entries
 few_of_sender s entries = omega (arith, length-filter (λ (e : Entry). eqb e.sender s) entries, count_by-le-length (λ (e : Entry). eqb e.sender s) entries)
 
--- what is told of some entries begins what is told of these and further ones
+-- what some entries print begins what these and further ones print
 pub told_begins : (inv : Configuration) (clock : Option ℕ) (w : World) (es more : List Entry) → BeginsWith (told_text inv clock w (es ++ more)) (told_text inv clock w es)
 unfolding tellings
 told_begins inv clock w [] more = (told_text inv clock w more, refl)

@@ -1,4 +1,4 @@
--- A log that tells: what it holds of the entries that were taken.
+-- A log that prints: what it holds of the entries that were taken.
 use Rattle.std.specs.Prelude.{◌≡◌, ◌<◌, ◌≤◌, ◌⊎◌, ℕ, List, [], ◌++◌, length, Option, Some, None}
 use Rattle.std.specs.Io.KnownBytes.{Appends}
 use Rattle.cmd_types.specs.declared.entry.Entry.{Entry}
@@ -10,7 +10,7 @@ use Rattle.cmd_ledger.specs.declared.ledger.Ledger.{Ledger}
 use Rattle.cmd_ledger.specs.Ledgers.{HasApplied}
 use Rattle.cmd_run.specs.declared.fault.RunCause.{RunCause}
 use Rattle.cmd_run.specs.declared.fault.RunCause.TheVariants.{JournalFull, QueueLost, Output}
-use Rattle.cmd_dispatch.specs.Told.{BeginsWith}
+use Rattle.cmd_dispatch.specs.Delivered.{BeginsWith}
 
 -- a beginning of the text was appended, and nothing else
 pub record AppendsBeginning (old new : Option (List ℕ)) (text : List ℕ) : Type 0 where
@@ -62,7 +62,7 @@ IsWithin limit None taken = length taken ≤ limit
 IsWithin limit (Some JournalFull) taken = limit < length taken
 IsWithin limit (Some cause) taken = Unit {0}
 
--- what a log that tells holds, by what its output told before and tells now
+-- what a log that prints holds, by what its output had before and has now
 pub record IsTelling (limit : ℕ) (inv : Configuration) (clock : Option ℕ) (before : Option (List ℕ)) (fault : Option RunCause) (taken : List Entry) (ledger : Ledger) (waiting : List ℕ) (now : Option (List ℕ)) : Type 0 where
   pub written : List ℕ
   pub appended : Appends before now written

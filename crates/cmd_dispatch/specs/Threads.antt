@@ -17,8 +17,8 @@ AreNew sides n = (length sides ≡ n) × ((k : ℕ) (s : Sent) → k < n → (sl
 
 module _ {F : Type 0} where
   -- each side is planned by the feed at its place
-  abbrev pub ArePlannedBy : (tells : F → Option (List ℕ)) → List Sent → List F → Type 0
-  ArePlannedBy tells sides feeds = (k : ℕ) (s : Sent) (f : F) → k < length feeds → IsPlannedBy (tells (slice_index_or feeds k f)) (slice_index_or sides k s)
+  abbrev pub ArePlannedBy : (remaining : F → Option (List ℕ)) → List Sent → List F → Type 0
+  ArePlannedBy remaining sides feeds = (k : ℕ) (s : Sent) (f : F) → k < length feeds → IsPlannedBy (remaining (slice_index_or feeds k f)) (slice_index_or sides k s)
 
 module _ {F P : Type 0} where
   -- the promise of a thread is that of this side and this feed, which is read so
@@ -52,14 +52,14 @@ module _ {F P : Type 0} where
     pub promised : HavePromised sides feeds reading handles
 
   -- the thread of this handle kept its promise
-  abbrev pub HasKeptIt : (tells : F → Option (List ℕ)) → (fails fills : F → Bool) → PromisedHandle (Ended × P × F) (Promised F) → Ended → SenderReport → (refused : List (ℕ × LineFault) → Type 0) → Type 0
-  HasKeptIt tells fails fills h end report refused =
+  abbrev pub HasKeptIt : (remaining : F → Option (List ℕ)) → (fails fills : F → Bool) → PromisedHandle (Ended × P × F) (Promised F) → Ended → SenderReport → (refused : List (ℕ × LineFault) → Type 0) → Type 0
+  HasKeptIt remaining fails fills h end report refused =
       (after : Option (List ℕ))
-      × HasSent (tells h.promise.feed.value) after (fails h.promise.feed.value) (fills h.promise.feed.value) h.promise.reading.piece h.promise.reading.reads h.promise.side.value.queue h.promise.side.value.sender end report refused
+      × HasSent (remaining h.promise.feed.value) after (fails h.promise.feed.value) (fills h.promise.feed.value) h.promise.reading.piece h.promise.reading.reads h.promise.side.value.queue h.promise.side.value.sender end report refused
 
   -- each thread kept its promise
-  pub record HaveEnded (tells : F → Option (List ℕ)) (fails fills : F → Bool) (handles : List (PromisedHandle (Ended × P × F) (Promised F))) (ends : List Ended) (reports : List SenderReport) (refused : ℕ → List (ℕ × LineFault) → Type 0) : Type 0 where
+  pub record HaveEnded (remaining : F → Option (List ℕ)) (fails fills : F → Bool) (handles : List (PromisedHandle (Ended × P × F) (Promised F))) (ends : List Ended) (reports : List SenderReport) (refused : ℕ → List (ℕ × LineFault) → Type 0) : Type 0 where
     pub ends_are : length ends ≡ length handles
     pub reports_are : length reports ≡ length handles
     pub kept : (k : ℕ) (h : PromisedHandle (Ended × P × F) (Promised F)) (e : Ended) (r : SenderReport) → k < length handles
-        → HasKeptIt tells fails fills (slice_index_or handles k h) (slice_index_or ends k e) (slice_index_or reports k r) (refused k)
+        → HasKeptIt remaining fails fills (slice_index_or handles k h) (slice_index_or ends k e) (slice_index_or reports k r) (refused k)

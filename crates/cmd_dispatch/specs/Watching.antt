@@ -4,9 +4,9 @@ use Rattle.atomic_table.specs.Seated.{TableId}
 use Rattle.cmd_types.specs.declared.entry.Entry.{Entry}
 use Rattle.cmd_run.specs.declared.fault.RunCause.{RunCause}
 use Rattle.cmd_run.specs.declared.fault.RunCause.TheVariants.{Memory}
-use Rattle.cmd_dispatch.specs.Told.{BeginsWith}
+use Rattle.cmd_dispatch.specs.Delivered.{BeginsWith}
 
--- where memory was wanting, the last entry of the journal may not be published
+-- where memory ran out, the last entry of the journal may not be published
 abbrev pub IsLastWanting : (List Entry → Type 0) → (journal : List Entry) → Type 0
 IsLastWanting shows journal = shows journal ⊎ ((published : List Entry) × (last : Entry) × shows published × (journal ≡ published ++ last ∷ []))
 
@@ -15,7 +15,7 @@ abbrev pub IsShown : (List Entry → Type 0) → Option RunCause → (journal : 
 IsShown shows (Some Memory) journal = IsLastWanting shows journal
 IsShown shows _ journal = shows journal
 
--- after a fault the published list is the journal, or for want of memory shorter by one entry at most
+-- after a fault the published list is the journal, or, where memory ran out, shorter by one entry at most
 abbrev pub IsBehind : RunCause → (journal published : List Entry) → Type 0
 IsBehind cause journal published = IsShown (λ list. published ≡ list) (Some cause) journal
 

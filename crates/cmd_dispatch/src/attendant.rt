@@ -20,20 +20,20 @@ use std::marker::Send;
 /// ```
 pub trait Attendant: Send + Drop {
     // The attendant has taken these refused lines, each by its number and its fault, in order, and no other.
-    ghost has_told: { Self → List (ℕ × LineFault) → Type 0 };
+    ghost has_taken: { Self → List (ℕ × LineFault) → Type 0 };
 
     /// Takes a refused line: its number, from 1, and its fault.
     ///
     /// # Errors
     /// Out of memory: the refused lines taken so far are unchanged, and the sender stops.
     fn refuse(&mut self, line: u64, fault: LineFault) -> Result<(), Memory>
-        ensures told { OnOk result ((refused : List (ℕ × LineFault)) → has_told self.old refused → has_told self.new (refused ++ (line, fault) ∷ [])) }
-        ensures kept { OnErr result ((refused : List (ℕ × LineFault)) → has_told self.old refused → has_told self.new refused) };
+        ensures taken { OnOk result ((refused : List (ℕ × LineFault)) → has_taken self.old refused → has_taken self.new (refused ++ (line, fault) ∷ [])) }
+        ensures kept { OnErr result ((refused : List (ℕ × LineFault)) → has_taken self.old refused → has_taken self.new refused) };
 
     /// Whether a command of `time`, in seconds, has to wait before it is sent. The sender calls it once for each
     /// command, in order. The refused lines taken are unchanged.
     fn must_wait(&mut self, time: u64) -> bool
-        ensures kept { (refused : List (ℕ × LineFault)) → has_told self.old refused → has_told self.new refused };
+        ensures kept { (refused : List (ℕ × LineFault)) → has_taken self.old refused → has_taken self.new refused };
 
     /// Blocks the sender's thread until the command of `time`, in seconds, may be sent, or until the run has failed.
     /// `line` is the number of the command's line, from 1. The sender calls it where
@@ -44,19 +44,19 @@ pub trait Attendant: Send + Drop {
     /// The command is not to be sent. The sender stops before it, as where memory runs out; but a feed that makes its
     /// commands sends it all the same.
     fn wait_for(&mut self, time: u64, line: u64) -> Result<(), Memory>
-        ensures kept { (refused : List (ℕ × LineFault)) → has_told self.old refused → has_told self.new refused };
+        ensures kept { (refused : List (ℕ × LineFault)) → has_taken self.old refused → has_taken self.new refused };
 
     /// Takes the ending of the sender. The sender calls it once, after all other calls. The refused lines taken are
     /// unchanged.
     fn ended(&mut self, ending: Ending)
-        ensures kept { (refused : List (ℕ × LineFault)) → has_told self.old refused → has_told self.new refused };
+        ensures kept { (refused : List (ℕ × LineFault)) → has_taken self.old refused → has_taken self.new refused };
 }
 
 /// A list of the refused lines. No command has to wait.
 impl Attendant for Vec<(u64, LineFault)> {
     ghost use Rattle.std.specs.Prelude.{◌≡◌};
 
-    ghost has_told = { λ list refused. list.items ≡ refused };
+    ghost has_taken = { λ list refused. list.items ≡ refused };
 
     /// Appends the line to the list. If memory runs out, the list is unchanged.
     fn refuse(&mut self, line: u64, fault: LineFault) -> Result<(), Memory> {

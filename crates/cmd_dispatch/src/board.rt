@@ -4,7 +4,7 @@ ghost use Rattle.std.specs.Prelude.{◌≡◌, [], length, IfOk, Some};
 ghost use Rattle.std.specs.Arc.{arc_value};
 ghost use Rattle.mon_engine.specs.Figures.{figures};
 ghost use Rattle.mon_engine.specs.Step.{meaning};
-ghost use Rattle.cmd_dispatch.specs.Told.{BeginsWith};
+ghost use Rattle.cmd_dispatch.specs.Delivered.{BeginsWith};
 ghost use Rattle.cmd_dispatch.specs.Dispatches.{Means};
 ghost use Rattle.cmd_dispatch.specs.BoardViews.{Shows};
 ghost use Rattle.cmd_dispatch.specs.BoardEnds.{writing_of, reading_of, IsWriter, IsReader};
@@ -205,10 +205,7 @@ impl BoardWriter {
         ensures same { self.new ≡ self.old }
         ensures seen { BeginsWith self.old.published reader.seen }
     {
-        let BoardReader {
-            word: _,
-            place: theirs,
-        } = reader;
+        let BoardReader { place: theirs, .. } = reader;
         let Some(place) = &mut self.place else {
             // A writer has its seat, by its invariant: only a run takes it out, and puts it back.
             unreachable!()

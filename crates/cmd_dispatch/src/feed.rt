@@ -30,7 +30,7 @@ pub struct FeedFailed;
 /// ```
 pub trait Feed: Send + Drop {
     // The bytes that its reads will give from here on, where they are known.
-    ghost tells: { Self → Option (List ℕ) };
+    ghost remaining: { Self → Option (List ℕ) };
 
     // Whether a read may fail.
     ghost fails: { Self → Bool };
@@ -46,14 +46,14 @@ pub trait Feed: Send + Drop {
     /// failing never becomes so.
     fn read<W: Wait>(&mut self, rt: &W, buffer: &mut [u8]) -> Result<usize, FeedFailed>
         ensures bound { IfOk result (λ n. n ≤ length buffer.new) }
-        ensures bytes { ReadConsumes (tells self.old) (tells self.new) result buffer.new }
+        ensures bytes { ReadConsumes (remaining self.old) (remaining self.new) result buffer.new }
         ensures failed { OnErr result (fails self.old ≡ true) }
         ensures steady { fails self.old ≡ false → fails self.new ≡ false }
-        ensures filled { fills self.old ≡ true → IfOk result (λ n. (n ≡ length buffer.new) ⊎ IsAtEnd (tells self.new)) }
+        ensures filled { fills self.old ≡ true → IfOk result (λ n. (n ≡ length buffer.new) ⊎ IsAtEnd (remaining self.new)) }
         ensures filling { fills self.old ≡ true → fills self.new ≡ true };
 
-    /// Whether a read may fail: only such a feed has the ending `ReadFailed`. No run calls it; it tells callers and
-    /// tests what the contract of a run promises of this feed.
+    /// Whether a read may fail: only such a feed has the ending `ReadFailed`. No run calls it: it is for callers and
+    /// tests, and shows what the contract of a run promises of this feed.
     fn failing(&self) -> bool
         ensures { result ≡ fails self.now };
 
@@ -72,7 +72,7 @@ pub trait Feed: Send + Drop {
     /// [`FeedFailed`]: no command was made, which is always so for a feed of bytes.
     fn make<W: Wait>(&mut self, _rt: &W) -> Result<Option<Stamped>, FeedFailed>
         ensures made { IfOk result (λ o. IfSome o IsMade) }
-        ensures bytes { MakeConsumes (tells self.old) (tells self.new) result }
+        ensures bytes { MakeConsumes (remaining self.old) (remaining self.new) result }
     {
         Err(FeedFailed)
     }
@@ -98,7 +98,7 @@ impl<'a> Bytes<'a> {
 }
 
 impl Feed for Bytes<'_> {
-    ghost tells = { λ b. Some b.rest.now };
+    ghost remaining = { λ b. Some b.rest.now };
 
     ghost fails = { λ _. false };
 
@@ -143,7 +143,7 @@ impl<R: Read + Send + Drop> Outside<R> {
 }
 
 impl<R: Read + Send + Drop> Feed for Outside<R> {
-    ghost tells = { λ o. R.remaining o.reader };
+    ghost remaining = { λ o. R.remaining o.reader };
 
     ghost fails = { λ _. true };
 

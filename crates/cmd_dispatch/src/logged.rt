@@ -9,7 +9,7 @@ ghost use Rattle.cmd_dispatch.specs.RunCalls.{sources};
 ghost use Rattle.cmd_dispatch.specs.Planned.{plan_of};
 ghost use Rattle.cmd_dispatch.specs.Dispatches.{KnowsAll};
 ghost use Rattle.cmd_dispatch.specs.Logs.{begun};
-ghost use Rattle.cmd_dispatch.specs.Told.{HaveToldNothing, told_at};
+ghost use Rattle.cmd_dispatch.specs.Delivered.{HaveTakenNothing, taken_at};
 ghost use Rattle.cmd_dispatch.specs.Runs.{HasEnded, IsFirstIncomplete, AreComplete, IsSpawned, IsCause};
 
 use crate::dispatch::Dispatch;
@@ -123,10 +123,10 @@ fn queue_of<J: Planning, F: Feed, R>(
     readers: &[F],
     capacity: usize,
 ) -> Result<(Vec<SenderSide>, DispatcherSide), QueueFault>
-    requires plan { J.plan ≡ plan_of F.tells readers.now }
+    requires plan { J.plan ≡ plan_of F.remaining readers.now }
     requires few { length readers.now ≤ MOST_SENDERS }
     ensures made { IfOk result (λ q. IsNewQueue (length readers.now) q.0.items q.1) }
-    ensures planned { IfOk result (λ q. q.1.queue.plan ≡ plan_of F.tells readers.now) }
+    ensures planned { IfOk result (λ q. q.1.queue.plan ≡ plan_of F.remaining readers.now) }
 {
     planned_queue::<J, R>(rt, alloc, readers.len() as u16, capacity)
 }
@@ -140,15 +140,15 @@ fn run_threads<'s, E, F: Feed + 's, P: Reporter + 's, R: Threads + Wait + Sync, 
     run: Prepared<F, P, L>,
 ) -> Ran<L, P>
     requires queue { IsNewQueue (length run.feeding.readers.items) run.sides.items run.side }
-    requires plan { run.side.queue.plan ≡ plan_of F.tells run.feeding.readers.items }
+    requires plan { run.side.queue.plan ≡ plan_of F.remaining run.feeding.readers.items }
     requires range { MayRun (length run.feeding.readers.items) run.feeding.options }
-    requires nothing_told { HaveToldNothing P.has_told run.feeding.reports.items (length run.feeding.readers.items) }
+    requires none_taken { HaveTakenNothing P.has_taken run.feeding.reports.items (length run.feeding.readers.items) }
     requires empty { (run.gathered.started.items ≡ []) × (run.gathered.ends.items ≡ []) × (run.gathered.senders.items ≡ []) }
     requires room { (length run.feeding.readers.items ≤ vec_capacity run.gathered.started) × (length run.feeding.readers.items ≤ vec_capacity run.gathered.ends) × (length run.feeding.readers.items ≤ vec_capacity run.gathered.senders) }
-    requires begun { L.holds (begun run.log (plan_of F.tells run.feeding.readers.items)) run.log None [] }
+    requires begun { L.holds (begun run.log (plan_of F.remaining run.feeding.readers.items)) run.log None [] }
     requires rests { L.rests run.log }
-    requires known { KnowsAll (L.knows (begun run.log (plan_of F.tells run.feeding.readers.items))) (length run.feeding.readers.items) (plan_of F.tells run.feeding.readers.items) }
-    ensures ended { HasEnded (sources F.tells F.fails F.fills run.feeding.options run.feeding.readers.items) (L.holds (begun run.log (plan_of F.tells run.feeding.readers.items)) result.log) result.cause (map P.view result.senders.items) (told_at P.has_told result.senders.items) result.settled }
+    requires known { KnowsAll (L.knows (begun run.log (plan_of F.remaining run.feeding.readers.items))) (length run.feeding.readers.items) (plan_of F.remaining run.feeding.readers.items) }
+    ensures ended { HasEnded (sources F.remaining F.fails F.fills run.feeding.options run.feeding.readers.items) (L.holds (begun run.log (plan_of F.remaining run.feeding.readers.items)) result.log) result.cause (map P.view result.senders.items) (taken_at P.has_taken result.senders.items) result.settled }
     // The taken messages are of the senders' queue.
     ensures queue { result.settled.queue ≡ run.side.queue }
 {
@@ -208,11 +208,11 @@ pub(crate) fn run_logged<F: Feed, P: Reporter, R: Threads + Wait + Sync, L: Log 
     log: L,
 ) -> Result<Ran<L, P>, L>
     requires range { MayRun (length feeding.readers.items) feeding.options }
-    requires nothing_told { HaveToldNothing P.has_told feeding.reports.items (length feeding.readers.items) }
-    requires begun { L.holds (begun log (plan_of F.tells feeding.readers.items)) log None [] }
+    requires none_taken { HaveTakenNothing P.has_taken feeding.reports.items (length feeding.readers.items) }
+    requires begun { L.holds (begun log (plan_of F.remaining feeding.readers.items)) log None [] }
     requires rests { L.rests log }
-    requires known { KnowsAll (L.knows (begun log (plan_of F.tells feeding.readers.items))) (length feeding.readers.items) (plan_of F.tells feeding.readers.items) }
-    ensures ended { IfOk result (λ r. HasEnded (sources F.tells F.fails F.fills feeding.options feeding.readers.items) (L.holds (begun log (plan_of F.tells feeding.readers.items)) r.log) r.cause (map P.view r.senders.items) (told_at P.has_told r.senders.items) r.settled) }
+    requires known { KnowsAll (L.knows (begun log (plan_of F.remaining feeding.readers.items))) (length feeding.readers.items) (plan_of F.remaining feeding.readers.items) }
+    ensures ended { IfOk result (λ r. HasEnded (sources F.remaining F.fails F.fills feeding.options feeding.readers.items) (L.holds (begun log (plan_of F.remaining feeding.readers.items)) r.log) r.cause (map P.view r.senders.items) (taken_at P.has_taken r.senders.items) r.settled) }
     ensures same { IfErr result (λ l. l ≡ log) }
 {
     let count = feeding.readers.len();
@@ -232,11 +232,11 @@ pub(crate) fn run_logged<F: Feed, P: Reporter, R: Threads + Wait + Sync, L: Log 
                 thread::scope_env(),
                 rt,
                 move |scope| -> Ran<L, P>
-                    requires { IsNewQueue (length run.feeding.readers.items) run.sides.items run.side × (run.side.queue.plan ≡ plan_of F.tells run.feeding.readers.items) × MayRun (length run.feeding.readers.items) run.feeding.options × HaveToldNothing P.has_told run.feeding.reports.items (length run.feeding.readers.items)
+                    requires { IsNewQueue (length run.feeding.readers.items) run.sides.items run.side × (run.side.queue.plan ≡ plan_of F.remaining run.feeding.readers.items) × MayRun (length run.feeding.readers.items) run.feeding.options × HaveTakenNothing P.has_taken run.feeding.reports.items (length run.feeding.readers.items)
                         × ((run.gathered.started.items ≡ []) × (run.gathered.ends.items ≡ []) × (run.gathered.senders.items ≡ []))
                         × ((length run.feeding.readers.items ≤ vec_capacity run.gathered.started) × (length run.feeding.readers.items ≤ vec_capacity run.gathered.ends) × (length run.feeding.readers.items ≤ vec_capacity run.gathered.senders))
-                        × L.holds (begun run.log (plan_of F.tells run.feeding.readers.items)) run.log None [] × L.rests run.log × KnowsAll (L.knows (begun run.log (plan_of F.tells run.feeding.readers.items))) (length run.feeding.readers.items) (plan_of F.tells run.feeding.readers.items) }
-                    ensures { HasEnded (sources F.tells F.fails F.fills run.feeding.options run.feeding.readers.items) (L.holds (begun run.log (plan_of F.tells run.feeding.readers.items)) result.log) result.cause (map P.view result.senders.items) (told_at P.has_told result.senders.items) result.settled }
+                        × L.holds (begun run.log (plan_of F.remaining run.feeding.readers.items)) run.log None [] × L.rests run.log × KnowsAll (L.knows (begun run.log (plan_of F.remaining run.feeding.readers.items))) (length run.feeding.readers.items) (plan_of F.remaining run.feeding.readers.items) }
+                    ensures { HasEnded (sources F.remaining F.fails F.fills run.feeding.options run.feeding.readers.items) (L.holds (begun run.log (plan_of F.remaining run.feeding.readers.items)) result.log) result.cause (map P.view result.senders.items) (taken_at P.has_taken result.senders.items) result.settled }
                 { run_threads(rt, alloc, scope, run) },
             ))
         }

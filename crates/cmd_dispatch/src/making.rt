@@ -29,7 +29,7 @@ fn send_one<P: Reporter, W: Wait>(
     requires few { length side.old.list ≤ MOST_FED }
     requires planned { ComeFirst (planned_of side.old.queue.plan side.old.sender) (commands_in side.old.list ++ command ∷ []) }
     ensures sent { MatchBool result (side.new ≡ with_command side.old (length side.old.list + 1) command) (side.new ≡ side.old) }
-    ensures kept { HasKept (P.has_told report.old) (P.has_told report.new) }
+    ensures kept { HasKept (P.has_taken report.old) (P.has_taken report.new) }
 {
     let time = command.time();
     if report.must_wait(time) {
@@ -51,10 +51,10 @@ fn send_each<F: Feed, P: Reporter, W: Wait>(
 ) -> Option<Ending>
     requires failing { F.fails feed.old ≡ true }
     requires new { side.old.list ≡ [] }
-    requires planned { IsPlannedBy (F.tells feed.old) side.old }
-    requires nothing_told { P.has_told report.old [] }
-    ensures told { IfSome result (λ how. HasRead (F.tells feed.old) (F.tells feed.new) (F.fails feed.old) (F.fills feed.old) reading.piece reading.reads how side.new (P.has_told report.new)) }
-    ensures begun { IfNone result (IsPartRead (F.tells feed.old) (F.tells feed.new) (F.fails feed.old) reading.piece reading.reads side.new (P.has_told report.new)) }
+    requires planned { IsPlannedBy (F.remaining feed.old) side.old }
+    requires none_taken { P.has_taken report.old [] }
+    ensures read { IfSome result (λ how. HasRead (F.remaining feed.old) (F.remaining feed.new) (F.fails feed.old) (F.fills feed.old) reading.piece reading.reads how side.new (P.has_taken report.new)) }
+    ensures begun { IfNone result (IsPartRead (F.remaining feed.old) (F.remaining feed.new) (F.fails feed.old) reading.piece reading.reads side.new (P.has_taken report.new)) }
     ensures side { (side.new.queue ≡ side.old.queue) × (side.new.sender ≡ side.old.sender) }
 {
     // For the proof alone, at no cost when it runs: the line of a command is one line, and has one item, also in a text
@@ -80,19 +80,17 @@ fn send_each<F: Feed, P: Reporter, W: Wait>(
 /// queue refuses, sends no mark. Requires a feed that may fail.
 pub(crate) fn send_made<F: Feed, P: Reporter, W: Wait>(
     rt: &W,
-    side: SenderSide,
+    mut side: SenderSide,
     feed: &mut F,
-    report: P,
+    mut report: P,
     reading: Reading,
 ) -> (ClosedSender, P)
     requires failing { F.fails feed.old ≡ true }
     requires new { side.list ≡ [] }
-    requires planned { IsPlannedBy (F.tells feed.old) side }
-    requires nothing_told { P.has_told report [] }
-    ensures { HasSent (F.tells feed.old) (F.tells feed.new) (F.fails feed.old) (F.fills feed.old) reading.piece reading.reads side.queue side.sender result.0 (P.view result.1) (P.has_told result.1) }
+    requires planned { IsPlannedBy (F.remaining feed.old) side }
+    requires none_taken { P.has_taken report [] }
+    ensures { HasSent (F.remaining feed.old) (F.remaining feed.new) (F.fails feed.old) (F.fills feed.old) reading.piece reading.reads side.queue side.sender result.0 (P.view result.1) (P.has_taken result.1) }
 {
-    let mut side = side;
-    let mut report = report;
     match send_each(rt, feed, &mut side, &mut report, reading) {
         Some(ending) => send_mark(rt, side, report, ending),
         None => leave(side, report),

@@ -3,7 +3,7 @@
 ghost use Rattle.std.specs.Prelude.{◌≡◌, ◌++◌, [], ◌∷◌, ℕ, List, IfOk, OnOk, OnErr};
 ghost use Rattle.cmd_lines.specs.declared.fault.LineFault.{LineFault};
 ghost use Rattle.cmd_run.specs.declared.ending.SenderReport.{SenderReport};
-ghost use Rattle.cmd_dispatch.specs.Told.{HaveToldNothing};
+ghost use Rattle.cmd_dispatch.specs.Delivered.{HaveTakenNothing};
 
 use cmd_lines::LineFault;
 use cmd_run::{Ending, SenderReport};
@@ -18,29 +18,29 @@ pub(crate) trait Reporter: Send + Drop {
     ghost view: { Self → SenderReport };
 
     // The reporter has taken these refused lines, in order, and no other.
-    ghost has_told: { Self → List (ℕ × LineFault) → Type 0 };
+    ghost has_taken: { Self → List (ℕ × LineFault) → Type 0 };
 
     /// Takes a refused line: its number, from 1, and its fault. If memory runs out, the refused lines taken are
     /// unchanged.
     fn refuse(&mut self, line: u64, fault: LineFault) -> Result<(), Memory>
-        ensures told { OnOk result ((refused : List (ℕ × LineFault)) → has_told self.old refused → has_told self.new (refused ++ (line, fault) ∷ [])) }
-        ensures kept { OnErr result ((refused : List (ℕ × LineFault)) → has_told self.old refused → has_told self.new refused) };
+        ensures taken { OnOk result ((refused : List (ℕ × LineFault)) → has_taken self.old refused → has_taken self.new (refused ++ (line, fault) ∷ [])) }
+        ensures kept { OnErr result ((refused : List (ℕ × LineFault)) → has_taken self.old refused → has_taken self.new refused) };
 
     /// Whether a command of `time`, in seconds, has to wait before it is sent. The refused lines taken are unchanged.
     fn must_wait(&mut self, time: u64) -> bool
-        ensures kept { (refused : List (ℕ × LineFault)) → has_told self.old refused → has_told self.new refused };
+        ensures kept { (refused : List (ℕ × LineFault)) → has_taken self.old refused → has_taken self.new refused };
 
     /// Blocks the sender's thread until a command of `time`, in seconds, may be sent, or until the run has failed.
     /// `line` is the number of the command's line, from 1. The refused lines taken are unchanged. Fails where the command
     /// of a text is not to be sent.
     fn wait_for(&mut self, time: u64, line: u64) -> Result<(), Memory>
-        ensures kept { (refused : List (ℕ × LineFault)) → has_told self.old refused → has_told self.new refused };
+        ensures kept { (refused : List (ℕ × LineFault)) → has_taken self.old refused → has_taken self.new refused };
 
     /// Sets the number of sent commands and the ending in the report. The refused lines taken are unchanged.
     fn end(&mut self, accepted: u64, ending: Ending)
         ensures accepted { (view self.new).accepted ≡ accepted }
         ensures ending { (view self.new).ending ≡ ending }
-        ensures kept { (refused : List (ℕ × LineFault)) → has_told self.old refused → has_told self.new refused };
+        ensures kept { (refused : List (ℕ × LineFault)) → has_taken self.old refused → has_taken self.new refused };
 
     /// The ending in the report.
     fn ending(&self) -> Ending
@@ -51,7 +51,7 @@ pub(crate) trait Reporter: Send + Drop {
 impl Reporter for SenderReport {
     ghost view = { λ r. r };
 
-    ghost has_told = { λ r refused. r.refused.items ≡ refused };
+    ghost has_taken = { λ r refused. r.refused.items ≡ refused };
 
     /// Appends the line to the report's refused lines. If memory runs out, the report is unchanged.
     fn refuse(&mut self, line: u64, fault: LineFault) -> Result<(), Memory> {
@@ -84,7 +84,7 @@ impl Reporter for SenderReport {
 /// Makes a report for each of `count` senders: no command, no refused line, and the ending `Whole`, which `end`
 /// replaces later. If memory runs out, no report is made.
 pub(crate) fn empty_reports(alloc: Global, count: usize) -> Result<Vec<SenderReport>, Memory>
-    ensures { IfOk result (λ v. HaveToldNothing (λ (r : SenderReport) (refused : List (ℕ × LineFault)). r.refused.items ≡ refused) v.items count) }
+    ensures { IfOk result (λ v. HaveTakenNothing (λ (r : SenderReport) (refused : List (ℕ × LineFault)). r.refused.items ≡ refused) v.items count) }
 {
     let mut reports = Vec::with_capacity(alloc, count)?;
     for _ in 0..count {

@@ -7,7 +7,7 @@ ghost use Rattle.cmd_lines.specs.declared.item.Item.{Item};
 ghost use Rattle.cmd_lines.specs.declared.phase.Phase.TheVariants.{Open};
 ghost use Rattle.cmd_lines.specs.Items.{known, items_so_far};
 ghost use Rattle.cmd_lines.specs.Reader.{Stands};
-ghost use Rattle.cmd_dispatch.specs.Told.{told};
+ghost use Rattle.cmd_dispatch.specs.Delivered.{items_by};
 ghost use Rattle.cmd_types.specs.Spelling.{Timed};
 ghost use Rattle.cmd_queue.specs.Sides.{with_commands};
 ghost use Rattle.cmd_dispatch.specs.Planned.{IsPlannedBy};
@@ -48,7 +48,7 @@ pub(crate) struct Sending<P: Reporter> {
 fn end_text(lines: &mut Lines, how: Ending)
     requires { lines.old.phase ≡ Open }
     ensures stands { (f : List ℕ) (g : List Item) → Stands lines.old f g → Stands lines.new f g }
-    ensures told { (f : List ℕ) → known lines.new.phase f ≡ told how f }
+    ensures items { (f : List ℕ) → known lines.new.phase f ≡ items_by how f }
     ensures pending { lines.new.pending ≡ lines.old.pending }
     ensures fed { lines.new.fed ≡ lines.old.fed }
 {
@@ -63,7 +63,7 @@ impl<P: Reporter> Sending<P> {
     /// gathered.
     fn send_gathered<W: Wait>(&mut self, rt: &W, alloc: Global) -> Result<(), SenderStop>
         requires within { IsWithin self.old }
-        ensures same { IsSame P.has_told self.old self.new }
+        ensures same { IsSame P.has_taken self.old self.new }
         ensures within { IsWithin self.new }
         ensures sent { OnOk result (self.new.gathered.items ≡ []) }
     {
@@ -84,7 +84,7 @@ impl<P: Reporter> Sending<P> {
     /// memory. After an error no command is lost.
     fn make_room<W: Wait>(&mut self, rt: &W, alloc: Global) -> Result<(), SenderStop>
         requires within { IsWithin self.old }
-        ensures same { IsSame P.has_told self.old self.new }
+        ensures same { IsSame P.has_taken self.old self.new }
         ensures within { IsWithin self.new }
         ensures room { OnOk result (HasRoom self.new) }
     {
@@ -100,8 +100,8 @@ impl<P: Reporter> Sending<P> {
     /// wait after which it is not to be sent, only this command is dropped.
     fn hold_back<W: Wait>(&mut self, rt: &W, alloc: Global) -> Result<(), SenderStop>
         requires within { IsWithin self.old }
-        ensures same { OnOk result (IsSame P.has_told self.old self.new) }
-        ensures dropped { OnErr result ((before : List Timed) (last : Timed) → self.old.gathered.items ≡ before ++ last ∷ [] → (ahead self.new ≡ with_commands self.old.side before) × HasKept (P.has_told self.old.report) (P.has_told self.new.report)) }
+        ensures same { OnOk result (IsSame P.has_taken self.old self.new) }
+        ensures dropped { OnErr result ((before : List Timed) (last : Timed) → self.old.gathered.items ≡ before ++ last ∷ [] → (ahead self.new ≡ with_commands self.old.side before) × HasKept (P.has_taken self.old.report) (P.has_taken self.new.report)) }
         ensures side { ((ahead self.new).queue ≡ (ahead self.old).queue) × ((ahead self.new).sender ≡ (ahead self.old).sender) }
         ensures within { IsWithin self.new }
         ensures phase { (self.new.lines ≡ self.old.lines) }
@@ -130,14 +130,14 @@ impl<P: Reporter> Sending<P> {
         requires room { HasRoom self.old }
         requires covered { IsCovered self.old.lines (ahead self.old) }
         requires few { self.old.lines.fed ≤ MOST_FED }
-        requires planned { KeepsPlan self.old.lines (ahead self.old) (P.has_told self.old.report) }
+        requires planned { KeepsPlan self.old.lines (ahead self.old) (P.has_taken self.old.report) }
         ensures passed { IfOk result (λ more. more ≡ true → (item : Item)
             × ((f : List ℕ) (g : List Item) → Stands self.old.lines f g → Stands self.new.lines f (g ++ item ∷ []))
-            × ((g : List Item) → HasPassedOn g (ahead self.old) (P.has_told self.old.report) → HasPassedOn (g ++ item ∷ []) (ahead self.new) (P.has_told self.new.report))) }
+            × ((g : List Item) → HasPassedOn g (ahead self.old) (P.has_taken self.old.report) → HasPassedOn (g ++ item ∷ []) (ahead self.new) (P.has_taken self.new.report))) }
         ensures falls { IfOk result (λ more. more ≡ true → length self.new.lines.pending < length self.old.lines.pending) }
         ensures none { IfOk result (λ more. more ≡ false → ((f : List ℕ) (g : List Item) → Stands self.old.lines f g → known self.old.lines.phase f ≡ g)
-            × (self.new.lines ≡ self.old.lines) × (ahead self.new ≡ ahead self.old) × HasKept (P.has_told self.old.report) (P.has_told self.new.report)) }
-        ensures stopped { OnErr result ((ahead self.new ≡ ahead self.old) × HasKept (P.has_told self.old.report) (P.has_told self.new.report)) }
+            × (self.new.lines ≡ self.old.lines) × (ahead self.new ≡ ahead self.old) × HasKept (P.has_taken self.old.report) (P.has_taken self.new.report)) }
+        ensures stopped { OnErr result ((ahead self.new ≡ ahead self.old) × HasKept (P.has_taken self.old.report) (P.has_taken self.new.report)) }
         ensures side { ((ahead self.new).queue ≡ (ahead self.old).queue) × ((ahead self.new).sender ≡ (ahead self.old).sender) }
         ensures few { length (ahead self.new).list ≤ length (ahead self.old).list + 1 }
         ensures within { IsWithin self.new }
@@ -163,11 +163,11 @@ impl<P: Reporter> Sending<P> {
         requires covered { IsCovered self.old.lines (ahead self.old) }
         requires few { self.old.lines.fed ≤ MOST_FED }
         requires within { IsWithin self.old }
-        requires planned { KeepsPlan self.old.lines (ahead self.old) (P.has_told self.old.report) }
-        ensures passed { OnOk result ((f : List ℕ) (g : List Item) → Stands self.old.lines f g → HasPassedOn g (ahead self.old) (P.has_told self.old.report)
-            → Stands self.new.lines f (known self.old.lines.phase f) × HasPassedOn (known self.old.lines.phase f) (ahead self.new) (P.has_told self.new.report)) }
-        ensures begun { (f : List ℕ) (g : List Item) → Stands self.old.lines f g → HasPassedOn g (ahead self.old) (P.has_told self.old.report)
-            → HasBegun (known self.old.lines.phase f) (ahead self.new) (P.has_told self.new.report) }
+        requires planned { KeepsPlan self.old.lines (ahead self.old) (P.has_taken self.old.report) }
+        ensures passed { OnOk result ((f : List ℕ) (g : List Item) → Stands self.old.lines f g → HasPassedOn g (ahead self.old) (P.has_taken self.old.report)
+            → Stands self.new.lines f (known self.old.lines.phase f) × HasPassedOn (known self.old.lines.phase f) (ahead self.new) (P.has_taken self.new.report)) }
+        ensures begun { (f : List ℕ) (g : List Item) → Stands self.old.lines f g → HasPassedOn g (ahead self.old) (P.has_taken self.old.report)
+            → HasBegun (known self.old.lines.phase f) (ahead self.new) (P.has_taken self.new.report) }
         ensures side { ((ahead self.new).queue ≡ (ahead self.old).queue) × ((ahead self.new).sender ≡ (ahead self.old).sender) }
         ensures within { IsWithin self.new }
         ensures covered { OnOk result (IsCovered self.new.lines (ahead self.new)) }
@@ -188,11 +188,11 @@ impl<P: Reporter> Sending<P> {
         requires covered { IsCovered self.old.lines (ahead self.old) }
         requires few { self.old.lines.fed + length piece.now ≤ MOST_FED }
         requires within { IsWithin self.old }
-        requires planned { ReadsInPlan (λ f. items_so_far (f ++ piece.now)) self.old.lines (ahead self.old) (P.has_told self.old.report) }
-        ensures reading { OnOk result ((f : List ℕ) → IsReading f self.old.lines (ahead self.old) (P.has_told self.old.report)
-            → IsReading (f ++ piece.now) self.new.lines (ahead self.new) (P.has_told self.new.report)) }
-        ensures begun { (f : List ℕ) → IsReading f self.old.lines (ahead self.old) (P.has_told self.old.report)
-            → HasBegun (items_so_far (f ++ piece.now)) (ahead self.new) (P.has_told self.new.report) }
+        requires planned { ReadsInPlan (λ f. items_so_far (f ++ piece.now)) self.old.lines (ahead self.old) (P.has_taken self.old.report) }
+        ensures reading { OnOk result ((f : List ℕ) → IsReading f self.old.lines (ahead self.old) (P.has_taken self.old.report)
+            → IsReading (f ++ piece.now) self.new.lines (ahead self.new) (P.has_taken self.new.report)) }
+        ensures begun { (f : List ℕ) → IsReading f self.old.lines (ahead self.old) (P.has_taken self.old.report)
+            → HasBegun (items_so_far (f ++ piece.now)) (ahead self.new) (P.has_taken self.new.report) }
         ensures side { ((ahead self.new).queue ≡ (ahead self.old).queue) × ((ahead self.new).sender ≡ (ahead self.old).sender) }
         ensures within { IsWithin self.new }
         ensures opened { OnOk result (self.new.lines.phase ≡ Open) }
@@ -212,11 +212,11 @@ impl<P: Reporter> Sending<P> {
         requires covered { IsCovered self.old.lines (ahead self.old) }
         requires few { self.old.lines.fed ≤ MOST_FED }
         requires within { IsWithin self.old }
-        requires planned { ReadsInPlan (told how) self.old.lines (ahead self.old) (P.has_told self.old.report) }
-        ensures told { OnOk result ((f : List ℕ) → IsReading f self.old.lines (ahead self.old) (P.has_told self.old.report)
-            → HasPassedOn (told how f) (ahead self.new) (P.has_told self.new.report)) }
-        ensures begun { (f : List ℕ) → IsReading f self.old.lines (ahead self.old) (P.has_told self.old.report)
-            → HasBegun (told how f) (ahead self.new) (P.has_told self.new.report) }
+        requires planned { ReadsInPlan (items_by how) self.old.lines (ahead self.old) (P.has_taken self.old.report) }
+        ensures passed { OnOk result ((f : List ℕ) → IsReading f self.old.lines (ahead self.old) (P.has_taken self.old.report)
+            → HasPassedOn (items_by how f) (ahead self.new) (P.has_taken self.new.report)) }
+        ensures begun { (f : List ℕ) → IsReading f self.old.lines (ahead self.old) (P.has_taken self.old.report)
+            → HasBegun (items_by how f) (ahead self.new) (P.has_taken self.new.report) }
         ensures side { ((ahead self.new).queue ≡ (ahead self.old).queue) × ((ahead self.new).sender ≡ (ahead self.old).sender) }
         ensures within { IsWithin self.new }
         ensures fed { OnOk result (self.new.lines.fed ≡ self.old.lines.fed) }
@@ -236,13 +236,13 @@ impl<P: Reporter> Sending<P> {
     ) -> Result<Ending, SenderStop>
         requires opened { self.old.lines.phase ≡ Open }
         requires nothing_fed { self.old.lines.fed ≡ 0 }
-        requires nothing_yet { IsReading [] self.old.lines (ahead self.old) (P.has_told self.old.report) }
+        requires nothing_yet { IsReading [] self.old.lines (ahead self.old) (P.has_taken self.old.report) }
         requires covered { IsCovered self.old.lines (ahead self.old) }
         requires within { IsWithin self.old }
-        requires planned { IsPlannedBy (F.tells feed.old) (ahead self.old) }
+        requires planned { IsPlannedBy (F.remaining feed.old) (ahead self.old) }
         // By the bytes that the feed has before and after: no byte of a read is lost.
-        ensures read { IfOk result (λ how. HasReadText (F.tells feed.old) (F.tells feed.new) (F.fails feed.old) (F.fills feed.old) reading.piece reading.reads how self.new.lines (ahead self.new) (P.has_told self.new.report)) }
-        ensures begun { OnErr result (IsPartRead (F.tells feed.old) (F.tells feed.new) (F.fails feed.old) reading.piece reading.reads (ahead self.new) (P.has_told self.new.report)) }
+        ensures read { IfOk result (λ how. HasReadText (F.remaining feed.old) (F.remaining feed.new) (F.fails feed.old) (F.fills feed.old) reading.piece reading.reads how self.new.lines (ahead self.new) (P.has_taken self.new.report)) }
+        ensures begun { OnErr result (IsPartRead (F.remaining feed.old) (F.remaining feed.new) (F.fails feed.old) reading.piece reading.reads (ahead self.new) (P.has_taken self.new.report)) }
         ensures side { ((ahead self.new).queue ≡ (ahead self.old).queue) × ((ahead self.new).sender ≡ (ahead self.old).sender) }
         ensures within { IsWithin self.new }
         ensures opened { OnOk result (self.new.lines.phase ≡ Open) }
@@ -272,12 +272,12 @@ impl<P: Reporter> Sending<P> {
     ) -> Result<Ending, SenderStop>
         requires opened { self.old.lines.phase ≡ Open }
         requires nothing_fed { self.old.lines.fed ≡ 0 }
-        requires nothing_yet { IsReading [] self.old.lines (ahead self.old) (P.has_told self.old.report) }
+        requires nothing_yet { IsReading [] self.old.lines (ahead self.old) (P.has_taken self.old.report) }
         requires covered { IsCovered self.old.lines (ahead self.old) }
         requires within { IsWithin self.old }
-        requires planned { IsPlannedBy (F.tells feed.old) (ahead self.old) }
-        ensures told { IfOk result (λ how. HasRead (F.tells feed.old) (F.tells feed.new) (F.fails feed.old) (F.fills feed.old) reading.piece reading.reads how (ahead self.new) (P.has_told self.new.report)) }
-        ensures begun { IsPartRead (F.tells feed.old) (F.tells feed.new) (F.fails feed.old) reading.piece reading.reads (ahead self.new) (P.has_told self.new.report) }
+        requires planned { IsPlannedBy (F.remaining feed.old) (ahead self.old) }
+        ensures read { IfOk result (λ how. HasRead (F.remaining feed.old) (F.remaining feed.new) (F.fails feed.old) (F.fills feed.old) reading.piece reading.reads how (ahead self.new) (P.has_taken self.new.report)) }
+        ensures begun { IsPartRead (F.remaining feed.old) (F.remaining feed.new) (F.fails feed.old) reading.piece reading.reads (ahead self.new) (P.has_taken self.new.report) }
         ensures side { ((ahead self.new).queue ≡ (ahead self.old).queue) × ((ahead self.new).sender ≡ (ahead self.old).sender) }
         ensures within { IsWithin self.new }
     {
@@ -292,16 +292,11 @@ impl<P: Reporter> Sending<P> {
     /// no mark is sent, and the report ends with `QueueRefused`.
     fn close<W: Wait>(mut self, rt: &W, alloc: Global, ending: Ending) -> (ClosedSender, P)
         requires within { IsWithin self }
-        ensures { HasClosed (ahead self) (P.has_told self.report) ending result.0 (P.view result.1) (P.has_told result.1) }
+        ensures { HasClosed (ahead self) (P.has_taken self.report) ending result.0 (P.view result.1) (P.has_taken result.1) }
     {
         match self.send_gathered(rt, alloc) {
             Ok(()) => {
-                let Sending {
-                    side,
-                    gathered: _,
-                    lines: _,
-                    report,
-                } = self;
+                let Sending { side, report, .. } = self;
                 send_mark(rt, side, report, ending)
             }
             Err(_) => self.leave(),
@@ -310,23 +305,17 @@ impl<P: Reporter> Sending<P> {
 
     /// Leaves the queue without a close mark, drops the gathered commands, and ends the report with `QueueRefused`.
     fn leave(self) -> (ClosedSender, P)
-        ensures { HasLeft (ahead self) (P.has_told self.report) result.0 (P.view result.1) (P.has_told result.1) }
+        ensures { HasLeft (ahead self) (P.has_taken self.report) result.0 (P.view result.1) (P.has_taken result.1) }
     {
-        let Sending {
-            side,
-            gathered: _,
-            lines: _,
-            report,
-        } = self;
+        let Sending { side, report, .. } = self;
         leave(side, report)
     }
 }
 
 /// Leaves the queue without a close mark, and ends the report with `QueueRefused`; no commands are gathered.
-pub(crate) fn leave<P: Reporter>(side: SenderSide, report: P) -> (ClosedSender, P)
-    ensures { HasLeft side (P.has_told report) result.0 (P.view result.1) (P.has_told result.1) }
+pub(crate) fn leave<P: Reporter>(side: SenderSide, mut report: P) -> (ClosedSender, P)
+    ensures { HasLeft side (P.has_taken report) result.0 (P.view result.1) (P.has_taken result.1) }
 {
-    let mut report = report;
     report.end(side.sent(), Ending::QueueRefused);
     (side.leave(), report)
 }
@@ -336,12 +325,11 @@ pub(crate) fn leave<P: Reporter>(side: SenderSide, report: P) -> (ClosedSender, 
 pub(crate) fn send_mark<P: Reporter, W: Wait>(
     rt: &W,
     side: SenderSide,
-    report: P,
+    mut report: P,
     ending: Ending,
 ) -> (ClosedSender, P)
-    ensures { HasClosed side (P.has_told report) ending result.0 (P.view result.1) (P.has_told result.1) }
+    ensures { HasClosed side (P.has_taken report) ending result.0 (P.view result.1) (P.has_taken result.1) }
 {
-    let mut report = report;
     let accepted = side.sent();
     match side.close(rt) {
         Ok(end) => {
@@ -361,17 +349,16 @@ pub(crate) fn send_all<F: Feed, P: Reporter, W: Wait>(
     sender: Sender<F, P>,
 ) -> (ClosedSender, P, F)
     requires new { sender.side.list ≡ [] }
-    requires planned { IsPlannedBy (F.tells sender.feed) sender.side }
-    requires nothing_told { P.has_told sender.report [] }
-    ensures { HasSent (F.tells sender.feed) (F.tells result.2) (F.fails sender.feed) (F.fills sender.feed) sender.reading.piece sender.reading.reads sender.side.queue sender.side.sender result.0 (P.view result.1) (P.has_told result.1) }
+    requires planned { IsPlannedBy (F.remaining sender.feed) sender.side }
+    requires none_taken { P.has_taken sender.report [] }
+    ensures { HasSent (F.remaining sender.feed) (F.remaining result.2) (F.fails sender.feed) (F.fills sender.feed) sender.reading.piece sender.reading.reads sender.side.queue sender.side.sender result.0 (P.view result.1) (P.has_taken result.1) }
 {
     let Sender {
         side,
-        feed,
+        mut feed,
         reading,
         report,
     } = sender;
-    let mut feed = feed;
     if feed.makes() {
         let (end, report) = send_made(rt, side, &mut feed, report, reading);
         return (end, report, feed);

@@ -180,7 +180,7 @@ struct Breaks {
 }
 
 impl Feed for Breaks {
-    ghost tells = { λ _. None };
+    ghost remaining = { λ _. None };
 
     ghost fails = { λ _. true };
 
@@ -259,7 +259,7 @@ impl Gated<'_> {
 }
 
 impl Feed for Gated<'_> {
-    ghost tells = { λ _. None };
+    ghost remaining = { λ _. None };
 
     ghost fails = { λ _. true };
 

@@ -2,7 +2,7 @@
 //! queue, and returns its end, its reporter and its feed.
 ghost use Rattle.std.specs.Prelude.{◌≡◌, ◌≤◌, [], length, map, vec_capacity, IfSome};
 ghost use Rattle.cmd_dispatch.specs.Sends.{HasSent};
-ghost use Rattle.cmd_dispatch.specs.Told.{HaveToldNothing, told_at};
+ghost use Rattle.cmd_dispatch.specs.Delivered.{HaveTakenNothing, taken_at};
 ghost use Rattle.cmd_dispatch.specs.Planned.{IsPlannedBy};
 ghost use Rattle.cmd_dispatch.specs.Threads.{AreNew, ArePlannedBy, HaveStarted, HaveEnded};
 
@@ -28,7 +28,7 @@ pub struct Promised<F> {
 impl<F: Feed, P: Reporter> Promise<(ClosedSender, P, F)> for Promised<F> {
     ghost use Rattle.cmd_dispatch.specs.Sends.{HasSent};
 
-    ghost kept_by = { λ p r. HasSent (F.tells p.feed.value) (F.tells r.2) (F.fails p.feed.value) (F.fills p.feed.value) p.reading.piece p.reading.reads p.side.value.queue p.side.value.sender r.0 (P.view r.1) (P.has_told r.1) };
+    ghost kept_by = { λ p r. HasSent (F.remaining p.feed.value) (F.remaining r.2) (F.fails p.feed.value) (F.fills p.feed.value) p.reading.piece p.reading.reads p.side.value.queue p.side.value.sender r.0 (P.view r.1) (P.has_taken r.1) };
 }
 
 /// The handle of a sender's thread, with its promise.
@@ -53,8 +53,8 @@ fn start<'s, E, F: Feed + 's, P: Reporter + 's, R: Wait + Sync>(
     sender: Sender<F, P>,
 ) -> Option<Started<F, P>>
     requires new { sender.side.list ≡ [] }
-    requires planned { IsPlannedBy (F.tells sender.feed) sender.side }
-    requires nothing_told { P.has_told sender.report [] }
+    requires planned { IsPlannedBy (F.remaining sender.feed) sender.side }
+    requires none_taken { P.has_taken sender.report [] }
     ensures { IfSome result (λ h. (h.promise.side.value ≡ sender.side) × (h.promise.feed.value ≡ sender.feed) × (h.promise.reading ≡ sender.reading)) }
 {
     let promise = Promised {
@@ -65,8 +65,8 @@ fn start<'s, E, F: Feed + 's, P: Reporter + 's, R: Wait + Sync>(
     let started = scope.spawn_with(
         promise,
         move || -> (ClosedSender, P, F)
-            requires { (sender.side.list ≡ []) × IsPlannedBy (F.tells sender.feed) sender.side × P.has_told sender.report [] }
-            ensures { HasSent (F.tells sender.feed) (F.tells result.2) (F.fails sender.feed) (F.fills sender.feed) sender.reading.piece sender.reading.reads sender.side.queue sender.side.sender result.0 (P.view result.1) (P.has_told result.1) }
+            requires { (sender.side.list ≡ []) × IsPlannedBy (F.remaining sender.feed) sender.side × P.has_taken sender.report [] }
+            ensures { HasSent (F.remaining sender.feed) (F.remaining result.2) (F.fails sender.feed) (F.fills sender.feed) sender.reading.piece sender.reading.reads sender.side.queue sender.side.sender result.0 (P.view result.1) (P.has_taken result.1) }
         { send_all(rt, alloc, sender) },
     );
     started.ok()
@@ -81,8 +81,8 @@ pub(crate) fn start_all<'s, E, F: Feed + 's, P: Reporter + 's, R: Wait + Sync>(
     senders: Senders<F, P>,
     started: &mut Vec<Started<F, P>>,
 ) -> bool
-    requires new { (started.old.items ≡ []) × AreNew senders.sides.items (length senders.feeds.items) × HaveToldNothing P.has_told senders.reports.items (length senders.feeds.items) }
-    requires planned { ArePlannedBy F.tells senders.sides.items senders.feeds.items }
+    requires new { (started.old.items ≡ []) × AreNew senders.sides.items (length senders.feeds.items) × HaveTakenNothing P.has_taken senders.reports.items (length senders.feeds.items) }
+    requires planned { ArePlannedBy F.remaining senders.sides.items senders.feeds.items }
     requires room { length senders.feeds.items ≤ vec_capacity started.old }
     ensures { HaveStarted senders.sides.items senders.feeds.items senders.reading started.new.items result }
 {
@@ -127,7 +127,7 @@ pub(crate) fn join_all<F: Feed, P: Reporter, R: Threads>(
 )
     requires empty { (ends.old.items ≡ []) × (reports.old.items ≡ []) }
     requires room { (length started.items ≤ vec_capacity ends.old) × (length started.items ≤ vec_capacity reports.old) }
-    ensures { HaveEnded F.tells F.fails F.fills started.items ends.new.items (map P.view reports.new.items) (told_at P.has_told reports.new.items) }
+    ensures { HaveEnded F.remaining F.fails F.fills started.items ends.new.items (map P.view reports.new.items) (taken_at P.has_taken reports.new.items) }
 {
     for handle in started {
         let (end, report, _) = handle.join(rt);

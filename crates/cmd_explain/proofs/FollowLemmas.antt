@@ -10,11 +10,11 @@ use Rattle.cmd_answer.specs.declared.follow_line.FollowLine.TheVariants as follo
 use Rattle.cmd_answer.specs.FollowLines.{follow_line, absent_words, absent_line}
 use Rattle.cmd_explain.specs.declared.kinds.LineKind.{LineKind}
 use Rattle.cmd_explain.specs.declared.kinds.LineKind.TheVariants as kind
-use Rattle.cmd_explain.specs.declared.told.Told.{Told}
-use Rattle.cmd_explain.specs.declared.told.Told.TheVariants.{Following, Waits, Replaced, Anew, Ended, ClockAhead, Absent, NewInventory, ToldMissing}
+use Rattle.cmd_explain.specs.declared.known.KnownLine.{KnownLine}
+use Rattle.cmd_explain.specs.declared.known.KnownLine.TheVariants.{Following, Waits, Replaced, Anew, Ended, ClockAhead, Absent, NewInventory, ToldMissing}
 use Rattle.cmd_explain.specs.Parts.{form_behind, numbers_behind}
-use Rattle.cmd_explain.specs.Tolds.{form_of, told_of}
-use Rattle.cmd_explain.specs.Explained.{told_by_path, told_in}
+use Rattle.cmd_explain.specs.KnownLines.{form_of, line_of}
+use Rattle.cmd_explain.specs.Explained.{line_by_path, known_line}
 use Rattle.cmd_explain.specs.Laws.{IsKnownAs}
 use Rattle.cmd_explain.proofs.NumberLemmas.{form_number, form_last, numbers_number, numbers_last}
 use Rattle.cmd_explain.proofs.PathLemmas.{ends, ends_not, is_other, names_none}
@@ -22,7 +22,7 @@ use Rattle.cmd_explain.proofs.KnownLemmas.{known_by, small_one, small_two, small
 
 module _ (laws : Laws) (a b c : ℕ) (h : a ≤ GREATEST_NUMBER) (k : b ≤ GREATEST_NUMBER) (l : c ≤ GREATEST_NUMBER) where
   pub following_known : IsKnownAs (follow_line (follow.Following a b c)) (Following a b c)
-  unfolding form_behind numbers_behind told_of
+  unfolding form_behind numbers_behind line_of
   following_known =
       let last = codes " entries, clock " ++ decimal c in
       let rest = codes " feeds, " ++ (decimal b ++ last) in (
@@ -37,19 +37,19 @@ module _ (laws : Laws) (a b c : ℕ) (h : a ≤ GREATEST_NUMBER) (k : b ≤ GREA
             (small_three a b c h k l) refl,
       )
 
-  waits_other : told_by_path (codes "gateway: feed " ++ (decimal a ++ (codes " waits: line " ++ (decimal b ++ (codes " is " ++ (decimal c ++ codes " seconds ahead")))))) ≡ None
+  waits_other : line_by_path (codes "gateway: feed " ++ (decimal a ++ (codes " waits: line " ++ (decimal b ++ (codes " is " ++ (decimal c ++ codes " seconds ahead")))))) ≡ None
   waits_other =
       let last = codes " seconds ahead" in
       let behind = codes " is " ++ decimal c in
       let front = decimal a ++ (codes " waits: line " ++ (decimal b ++ behind)) in
-      ap (λ (t : List ℕ). told_by_path (codes "gateway: feed " ++ t)) (
+      ap (λ (t : List ℕ). line_by_path (codes "gateway: feed " ++ t)) (
       ap (λ (t : List ℕ). decimal a ++ (codes " waits: line " ++ t)) (sym (append_assoc (decimal b) behind last))
       ∙ sym (append_assoc (decimal a) (codes " waits: line " ++ (decimal b ++ behind)) last)
       )
       ∙ names_none front last refl
 
   pub waits_known : IsKnownAs (follow_line (follow.Waits a b c)) (Waits a b c)
-  unfolding form_behind numbers_behind told_of
+  unfolding form_behind numbers_behind line_of
   waits_known =
       let last = codes " seconds ahead" in
       let more = codes " is " ++ (decimal c ++ last) in
@@ -68,27 +68,27 @@ module _ (laws : Laws) (a b c : ℕ) (h : a ≤ GREATEST_NUMBER) (k : b ≤ GREA
 
 module _ (laws : Laws) (feed : ℕ) (h : feed ≤ GREATEST_NUMBER) where
   -- a line on a feed: `rest` stands behind its number, and has no number
-  of_feed_known : (k : LineKind) (rest : List ℕ) (told : Told) → is_other rest ≡ true → form_behind true rest ≡ rest → numbers_behind (Some feed) rest ≡ feed ∷ [] → form_of k ≡ codes "gateway: feed 0" ++ rest → told_of k (feed ∷ []) ≡ Some told → IsKnownAs (codes "gateway: feed " ++ (decimal feed ++ (rest ++ 10 ∷ []))) told
+  of_feed_known : (k : LineKind) (rest : List ℕ) (known : KnownLine) → is_other rest ≡ true → form_behind true rest ≡ rest → numbers_behind (Some feed) rest ≡ feed ∷ [] → form_of k ≡ codes "gateway: feed 0" ++ rest → line_of k (feed ∷ []) ≡ Some known → IsKnownAs (codes "gateway: feed " ++ (decimal feed ++ (rest ++ 10 ∷ []))) known
   unfolding form_behind numbers_behind
-  of_feed_known k rest told other form_is numbers_are is said = (
+  of_feed_known k rest known other form_is numbers_are is said = (
     codes "gateway: feed " ++ (decimal feed ++ rest),
     ap (λ (t : List ℕ). codes "gateway: feed " ++ t) (sym (append_assoc (decimal feed) rest (10 ∷ []))),
-    known_by _ k (feed ∷ []) (Some told) (names_none (decimal feed) rest other)
+    known_by _ k (feed ∷ []) (Some known) (names_none (decimal feed) rest other)
         (ap (λ (t : List ℕ). codes "gateway: feed " ++ t) (form_number laws feed rest h) ∙ ap (λ (t : List ℕ). codes "gateway: feed 0" ++ t) form_is ∙ sym is)
         (numbers_number laws feed rest h ∙ numbers_are)
         (small_one feed h) said,
   )
 
   pub replaced_known : IsKnownAs (follow_line (follow.Replaced feed)) (Replaced feed)
-  unfolding form_behind numbers_behind told_of
+  unfolding form_behind numbers_behind line_of
   replaced_known = of_feed_known kind.Replaced (codes ": replaced") (Replaced feed) refl refl refl refl refl
 
   pub anew_known : IsKnownAs (follow_line (follow.Anew feed)) (Anew feed)
-  unfolding form_behind numbers_behind told_of
+  unfolding form_behind numbers_behind line_of
   anew_known = of_feed_known kind.Anew (codes ": begins anew") (Anew feed) refl refl refl refl refl
 
   pub ended_known : (e : Ending) → IsKnownAs (follow_line (follow.Ended feed e)) (Ended feed e)
-  unfolding form_behind numbers_behind told_of
+  unfolding form_behind numbers_behind line_of
   ended_known ending.Whole = of_feed_known (kind.Ended ending.Whole) (codes ": whole") (Ended feed ending.Whole) refl refl refl refl refl
   ended_known ending.ReadFailed = of_feed_known (kind.Ended ending.ReadFailed) (codes ": read-failed") (Ended feed ending.ReadFailed) refl refl refl refl refl
   ended_known ending.TooManyReads = of_feed_known (kind.Ended ending.TooManyReads) (codes ": too-many-reads") (Ended feed ending.TooManyReads) refl refl refl refl refl
@@ -97,7 +97,7 @@ module _ (laws : Laws) (feed : ℕ) (h : feed ≤ GREATEST_NUMBER) where
 
 module _ (laws : Laws) (seconds : ℕ) (h : seconds ≤ GREATEST_NUMBER) where
   pub clock_ahead_known : IsKnownAs (follow_line (follow.ClockAhead seconds)) (ClockAhead seconds)
-  unfolding form_behind numbers_behind told_of
+  unfolding form_behind numbers_behind line_of
   clock_ahead_known =
       let rest = codes " seconds ahead" in (
         codes "gateway: clock: " ++ (decimal seconds ++ rest),
@@ -112,7 +112,7 @@ module _ (laws : Laws) (seconds : ℕ) (h : seconds ≤ GREATEST_NUMBER) where
 
 module _ (laws : Laws) (a b : ℕ) (h : a ≤ GREATEST_NUMBER) (k : b ≤ GREATEST_NUMBER) where
   pub new_inventory_known : IsKnownAs (follow_line (follow.NewInventory a b)) (NewInventory a b)
-  unfolding form_behind numbers_behind told_of
+  unfolding form_behind numbers_behind line_of
   new_inventory_known =
       let last = codes " services" in
       let rest = codes " hosts, " ++ (decimal b ++ last) in (
@@ -128,7 +128,7 @@ module _ (laws : Laws) (a b : ℕ) (h : a ≤ GREATEST_NUMBER) (k : b ≤ GREATE
 
 module _ (laws : Laws) (a b : ℕ) (h : a ≤ GREATEST_NUMBER) (k : b ≤ GREATEST_NUMBER) where
   pub told_missing_known : IsKnownAs (follow_line (follow.ToldMissing a b)) (ToldMissing a b)
-  unfolding form_behind numbers_behind told_of
+  unfolding form_behind numbers_behind line_of
   told_missing_known =
       let last = codes ": not there" in
       let rest = codes "." ++ (decimal b ++ last) in (
@@ -144,10 +144,10 @@ module _ (laws : Laws) (a b : ℕ) (h : a ≤ GREATEST_NUMBER) (k : b ≤ GREATE
 
 -- ---- a feed whose file cannot be read
 
-absent_told : (path : List ℕ) (is_there : Bool) → told_in (codes "gateway: feed " ++ (path ++ absent_words is_there)) ≡ Some (Absent is_there)
-unfolding told_in
-absent_told path false = rw (ends (codes "gateway: feed " ++ path) (codes ": not there")) refl
-absent_told path true =
+absent_read : (path : List ℕ) (is_there : Bool) → known_line (codes "gateway: feed " ++ (path ++ absent_words is_there)) ≡ Some (Absent is_there)
+unfolding known_line
+absent_read path false = rw (ends (codes "gateway: feed " ++ path) (codes ": not there")) refl
+absent_read path true =
     let begins = codes "gateway: feed " ++ path in
     rw (ends_not begins (codes ": not opened") (codes ": not there") (omega arith) (omega arith) refl, ends begins (codes ": not opened")) refl
 
@@ -155,5 +155,5 @@ pub absent_known : (feed : AbsentFeed) → IsKnownAs (absent_line feed) (Absent 
 absent_known feed = (
   codes "gateway: feed " ++ (feed.path.now ++ absent_words feed.is_there),
   ap (λ (t : List ℕ). codes "gateway: feed " ++ t) (sym (append_assoc feed.path.now (absent_words feed.is_there) (10 ∷ []))),
-  absent_told feed.path.now feed.is_there,
+  absent_read feed.path.now feed.is_there,
 )

@@ -26,11 +26,11 @@ use Rattle.mon_state.specs.declared.fault.StateCause.{StateCause}
 use Rattle.mon_state.specs.declared.fault.StateCause.TheVariants as state
 use Rattle.cmd_explain.specs.declared.kinds.LineKind.{LineKind}
 use Rattle.cmd_explain.specs.declared.kinds.LineKind.TheVariants as kind
-use Rattle.cmd_explain.specs.declared.told.Told.{Told}
+use Rattle.cmd_explain.specs.declared.known.KnownLine.{KnownLine}
 use Rattle.mon_state.specs.Causes as of_state
 use Rattle.cmd_explain.specs.Codes.{inventory_cause, journal_cause, state_cause, reason_of, cause_of_feed, run_cause, fault_of_argument, line_fault}
-use Rattle.cmd_explain.specs.Tolds.{form_of, kind_of}
-use Rattle.cmd_explain.specs.Explained.{told_by_line, meaning_lines, shown_lines, taken_away}
+use Rattle.cmd_explain.specs.KnownLines.{form_of, kind_of}
+use Rattle.cmd_explain.specs.Explained.{known_by_line, meaning_lines, shown_lines, taken_away}
 use Rattle.cmd_explain.specs.Laws.{FindsAll}
 
 -- ---- causes by their numbers
@@ -180,10 +180,10 @@ finds_all = record { inventory = inventory_found; journal = journal_found; state
 
 -- ---- without the meanings
 
-without_one : (told : Option Told) (lines : List (List ℕ)) → taken_away (is_some told) (meaning_lines told ++ lines) ≡ taken_away false lines
+without_one : (known : Option KnownLine) (lines : List (List ℕ)) → taken_away (is_some known) (meaning_lines known ++ lines) ≡ taken_away false lines
 without_one None lines = refl
-without_one (Some told) lines = refl
+without_one (Some known) lines = refl
 
 pub without_meanings : (lines : List (List ℕ)) → taken_away false (shown_lines lines) ≡ lines
 without_meanings [] = refl
-without_meanings (line ∷ lines) = ap (λ (ls : List (List ℕ)). line ∷ ls) (without_one (told_by_line line) (shown_lines lines) ∙ without_meanings lines)
+without_meanings (line ∷ lines) = ap (λ (ls : List (List ℕ)). line ∷ ls) (without_one (known_by_line line) (shown_lines lines) ∙ without_meanings lines)

@@ -7,5 +7,5 @@ pub mod NumberLemmas
 pub mod PathLemmas
 pub mod KnownLemmas
 pub mod FollowLemmas
-pub mod ToldLemmas
+pub mod KnownLineLemmas
 pub mod OutputLemmas

@@ -21,11 +21,11 @@ use Rattle.mon_inventory.specs.declared.fault.Cause.{Cause}
 use Rattle.mon_inventory.specs.declared.fault.Cause.TheVariants as inventory
 use Rattle.mon_state.specs.declared.fault.StateCause.{StateCause}
 use Rattle.mon_state.specs.declared.fault.StateCause.TheVariants as state
-use Rattle.cmd_explain.specs.declared.told.Told.{Told}
-use Rattle.cmd_explain.specs.declared.told.Told.TheVariants.{Usage, Input, Feeds, FeedTwice, Memory, Output, Open, Inventory, Journal, Fault, State, StateLine, StateInventory, StateJournal, Following, Waits, Replaced, Anew, Ended, ClockAhead, Absent, NewInventory, InventoryRefused, ToldMissing, Refused, Rejected, Feed}
+use Rattle.cmd_explain.specs.declared.known.KnownLine.{KnownLine}
+use Rattle.cmd_explain.specs.declared.known.KnownLine.TheVariants.{Usage, Input, Feeds, FeedTwice, Memory, Output, Open, Inventory, Journal, Fault, State, StateLine, StateInventory, StateJournal, Following, Waits, Replaced, Anew, Ended, ClockAhead, Absent, NewInventory, InventoryRefused, ToldMissing, Refused, Rejected, Feed}
 use Rattle.cmd_explain.specs.Words.{inventory_words, journal_words, state_line_words, state_words, absence_words, run_words, ending_words, fault_words, reason_words}
 use Rattle.cmd_explain.specs.Meanings.{pieces_of, together, meaning}
-use Rattle.cmd_explain.specs.Explained.{told_by_line, whole_lines, lines_of, meaning_lines, shown_lines, ended, taken_away}
+use Rattle.cmd_explain.specs.Explained.{known_by_line, whole_lines, lines_of, meaning_lines, shown_lines, ended, taken_away}
 use Rattle.cmd_explain.specs.Laws.{LosesNothing}
 use Rattle.cmd_explain.proofs.LineLemmas.{before_text}
 use Rattle.cmd_explain.proofs.LawLemmas.{without_meanings}
@@ -155,7 +155,7 @@ module _ (laws : Laws) where
   fault_lack (fault.BadNumber k) = (words _ refl, (number_lacks k, (words _ refl, tt)))
   fault_lack fault.Memory = (words _ refl, tt)
 
-  pieces_lack : (told : Told) → LackAll (pieces_of told)
+  pieces_lack : (known : KnownLine) → LackAll (pieces_of known)
   pieces_lack Usage = (words _ refl, tt)
   pieces_lack Input = (words _ refl, tt)
   pieces_lack Feeds = (words _ refl, tt)
@@ -188,8 +188,8 @@ module _ (laws : Laws) where
   together_lacks [] h = tt
   together_lacks (piece ∷ pieces) h = laws.lacking.join 10 piece (together pieces) h.0.lacks (together_lacks pieces h.1)
 
-  meaning_lacks : (told : Told) → IsOneLine (codes "    " ++ meaning told)
-  meaning_lacks told = record { lacks = laws.lacking.join 10 (codes "    ") (meaning told) (laws.lacking.tested 10 (codes "    ") refl) (together_lacks (pieces_of told) (pieces_lack told)) }
+  meaning_lacks : (known : KnownLine) → IsOneLine (codes "    " ++ meaning known)
+  meaning_lacks known = record { lacks = laws.lacking.join 10 (codes "    ") (meaning known) (laws.lacking.tested 10 (codes "    ") refl) (together_lacks (pieces_of known) (pieces_lack known)) }
 
   -- ---- the lines of a text, and those that are shown
 
@@ -202,13 +202,13 @@ module _ (laws : Laws) where
   whole_lack (line ∷ []) h = one_lacks line (length line == 0) h
   whole_lack (line ∷ (next ∷ lines)) h = (record { lacks = h.0 }, whole_lack (next ∷ lines) h.1)
 
-  behind_lacks : (told : Option Told) (lines : List (List ℕ)) → LackAll lines → LackAll (meaning_lines told ++ lines)
+  behind_lacks : (known : Option KnownLine) (lines : List (List ℕ)) → LackAll lines → LackAll (meaning_lines known ++ lines)
   behind_lacks None lines h = h
-  behind_lacks (Some told) lines h = (meaning_lacks told, h)
+  behind_lacks (Some known) lines h = (meaning_lacks known, h)
 
   shown_lack : (lines : List (List ℕ)) → LackAll lines → LackAll (shown_lines lines)
   shown_lack [] h = tt
-  shown_lack (line ∷ lines) h = (h.0, behind_lacks (told_by_line line) (shown_lines lines) (shown_lack lines h.1))
+  shown_lack (line ∷ lines) h = (h.0, behind_lacks (known_by_line line) (shown_lines lines) (shown_lack lines h.1))
 
   -- lines that were ended are the lines of that text
   lines_ended : (lines : List (List ℕ)) → LackAll lines → lines_of (ended lines) ≡ lines

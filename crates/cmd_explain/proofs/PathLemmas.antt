@@ -6,7 +6,7 @@ use Rattle.std.proofs.Math.Seq.{drop-append-add}
 use Rattle.std.proofs.lemmas.Bool.{leb-true, and_parts}
 use Rattle.std.proofs.lemmas.Bool.Decides.{Decides-eqb}
 use Rattle.std.proofs.lemmas.Slice.Eq.{ends_is, bytes_eq-Decides}
-use Rattle.cmd_explain.specs.Explained.{told_by_path}
+use Rattle.cmd_explain.specs.Explained.{line_by_path}
 
 -- ---- the end of a text
 
@@ -48,7 +48,7 @@ abbrev pub is_other : List ℕ → Bool
 is_other rest = nat_le 3 (length rest) && (not (bytes_eq (last_three rest) (codes "ere")) && not (bytes_eq (last_three rest) (codes "ned")))
 
 -- a line on a feed that ends so names no file
-pub names_none : (front rest : List ℕ) → is_other rest ≡ true → told_by_path (codes "gateway: feed " ++ (front ++ rest)) ≡ None
+pub names_none : (front rest : List ℕ) → is_other rest ≡ true → line_by_path (codes "gateway: feed " ++ (front ++ rest)) ≡ None
 names_none front rest other =
     let parts = and_parts (nat_le 3 (length rest)) _ other in
     let ends_are = and_parts (not (bytes_eq (last_three rest) (codes "ere"))) _ parts.1 in

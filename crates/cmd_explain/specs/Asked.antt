@@ -11,7 +11,7 @@ use Rattle.cmd_explain.specs.Explained.{explained, is_all_known}
 abbrev pub or_line : (text : List ℕ) → List ℕ
 or_line text = if length text == 0 then 10 ∷ [] else text
 
--- the words, with a blank before each but the first; without words what the input tells
+-- the words, with a blank before each but the first; without words the whole input
 abbrev pub asked_text : (words : List (List ℕ)) → (input : Option (List ℕ)) → Option (List ℕ)
 asked_text [] input = input
 asked_text (word ∷ words) input = Some (or_line (word ++ flat_map (λ w. 32 ∷ w) words))
@@ -25,7 +25,7 @@ explained_status (word ∷ words) asked = if is_all_known asked then 0 else 1
 abbrev pub Explains : (words : List (List ℕ)) → (asked text : List ℕ) → (status : ℕ) → Type 0
 Explains words asked text status = (text ≡ explained asked) × (status ≡ explained_status words asked)
 
--- why nothing is explained: without words the input could not be read to its end; or memory was wanting
+-- why nothing is explained: without words the input could not be read to its end; or memory ran out
 abbrev pub StopsExplain : (words : List (List ℕ)) → FilesStop → Type 0
 StopsExplain words (Other stop.Memory) = Unit {0}
 StopsExplain [] (Other stop.Input) = Unit {0}

@@ -4,10 +4,10 @@ use Rattle.std.specs.List.{flat_map, list_all, starts_with, ends_with}
 use Rattle.std.specs.Option.{option_and_then, option_or}
 use Rattle.cmd_types.specs.Bytes.{without_returns}
 use Rattle.cmd_types.specs.TextLines.{split_lines}
-use Rattle.cmd_explain.specs.declared.told.Told.{Told}
-use Rattle.cmd_explain.specs.declared.told.Told.TheVariants.{Open, Absent}
+use Rattle.cmd_explain.specs.declared.known.KnownLine.{KnownLine}
+use Rattle.cmd_explain.specs.declared.known.KnownLine.TheVariants.{Open, Absent}
 use Rattle.cmd_explain.specs.Parts.{form, numbers, are_small}
-use Rattle.cmd_explain.specs.Tolds.{kind_of, told_of}
+use Rattle.cmd_explain.specs.KnownLines.{kind_of, line_of}
 use Rattle.cmd_explain.specs.Meanings.{meaning}
 
 -- ---- a line
@@ -20,27 +20,27 @@ names_path line = starts_with nat_eq line (codes "gateway: open ")
 abbrev pub names_feed : (line last : List ℕ) → Bool
 names_feed line last = starts_with nat_eq line (codes "gateway: feed ") && ends_with nat_eq line last
 
--- the message of a line that names a file
-abbrev pub told_by_path : (line : List ℕ) → Option Told
-told_by_path line =
+-- what a line that names a file says
+abbrev pub line_by_path : (line : List ℕ) → Option KnownLine
+line_by_path line =
     if names_path line then Some Open else
     if names_feed line (codes ": not there") then Some (Absent false) else
     if names_feed line (codes ": not opened") then Some (Absent true) else None
 
--- the message of a line by its form and its numbers
-abbrev pub told_by_form : (line : List ℕ) → Option Told
-told_by_form line = if are_small (numbers line) then option_and_then (λ kind. told_of kind (numbers line)) (kind_of (form line)) else None
+-- what a line says by its form and its numbers
+abbrev pub known_by_form : (line : List ℕ) → Option KnownLine
+known_by_form line = if are_small (numbers line) then option_and_then (λ kind. line_of kind (numbers line)) (kind_of (form line)) else None
 
--- the message of a line that the program prints; none for any other line
-unfoldable pub told_in : (line : List ℕ) → Option Told
-told_in line = option_or (told_by_path line) (told_by_form line)
+-- what a line that the program prints says; none for any other line
+unfoldable pub known_line : (line : List ℕ) → Option KnownLine
+known_line line = option_or (line_by_path line) (known_by_form line)
 
--- the message of a line of a text, whose carriage returns at the end do not count
-abbrev pub told_by_line : (line : List ℕ) → Option Told
-told_by_line line = told_in (without_returns line)
+-- what a line of a text says, whose carriage returns at the end do not count
+abbrev pub known_by_line : (line : List ℕ) → Option KnownLine
+known_by_line line = known_line (without_returns line)
 
 abbrev pub is_known : (line : List ℕ) → Bool
-is_known line = is_some (told_by_line line)
+is_known line = is_some (known_by_line line)
 
 -- ---- a text
 
@@ -53,15 +53,15 @@ whole_lines (line ∷ (next ∷ lines)) = line ∷ whole_lines (next ∷ lines)
 abbrev pub lines_of : (text : List ℕ) → List (List ℕ)
 lines_of text = whole_lines (split_lines text)
 
--- the line after a line with this message: four blanks and the meaning; none after a line that is not known
-abbrev pub meaning_lines : Option Told → List (List ℕ)
+-- the line after a line that says this: four blanks and the meaning; none after a line that is not known
+abbrev pub meaning_lines : Option KnownLine → List (List ℕ)
 meaning_lines None = []
-meaning_lines (Some told) = (codes "    " ++ meaning told) ∷ []
+meaning_lines (Some known) = (codes "    " ++ meaning known) ∷ []
 
 -- each line, and after each line that is known its meaning
 abbrev pub shown_lines : (lines : List (List ℕ)) → List (List ℕ)
 shown_lines [] = []
-shown_lines (line ∷ lines) = line ∷ (meaning_lines (told_by_line line) ++ shown_lines lines)
+shown_lines (line ∷ lines) = line ∷ (meaning_lines (known_by_line line) ++ shown_lines lines)
 
 -- lines, each with its line feed
 abbrev pub ended : (lines : List (List ℕ)) → List ℕ

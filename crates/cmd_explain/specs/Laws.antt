@@ -26,12 +26,12 @@ use Rattle.cmd_answer.specs.Printed.{fault_line, feed_line, refused_line}
 use Rattle.cmd_answer.specs.Stops.{stop_line}
 use Rattle.cmd_answer.specs.StateStops.{state_line, state_stop_line}
 use Rattle.cmd_explain.specs.declared.kinds.LineKind.{LineKind}
-use Rattle.cmd_explain.specs.declared.told.Told.{Told}
-use Rattle.cmd_explain.specs.declared.told.Told.TheVariants.{Usage, Input, Feeds, FeedTwice, Memory, Output, Open, Inventory, Journal, Fault, State, StateLine, StateInventory, StateJournal, Following, Waits, Replaced, Anew, Ended, ClockAhead, Absent, NewInventory, InventoryRefused, ToldMissing, Refused, Rejected, Feed}
+use Rattle.cmd_explain.specs.declared.known.KnownLine.{KnownLine}
+use Rattle.cmd_explain.specs.declared.known.KnownLine.TheVariants.{Usage, Input, Feeds, FeedTwice, Memory, Output, Open, Inventory, Journal, Fault, State, StateLine, StateInventory, StateJournal, Following, Waits, Replaced, Anew, Ended, ClockAhead, Absent, NewInventory, InventoryRefused, ToldMissing, Refused, Rejected, Feed}
 use Rattle.mon_state.specs.Causes as of_state
 use Rattle.cmd_explain.specs.Codes.{inventory_cause, journal_cause, state_cause, reason_of, run_cause, line_fault}
-use Rattle.cmd_explain.specs.Tolds.{form_of, kind_of}
-use Rattle.cmd_explain.specs.Explained.{told_in, lines_of, explained, taken_away}
+use Rattle.cmd_explain.specs.KnownLines.{form_of, kind_of}
+use Rattle.cmd_explain.specs.Explained.{known_line, lines_of, explained, taken_away}
 
 -- each cause, fault and reason is found by its number, and each kind of line by its form
 pub record FindsAll : Type 0 where
@@ -44,11 +44,11 @@ pub record FindsAll : Type 0 where
   pub kinds : (k : LineKind) → kind_of (form_of k) ≡ Some k
 
 -- the text is one line with its line feed, which is known and says this
-abbrev pub IsKnownAs : (text : List ℕ) → Told → Type 0
-IsKnownAs text told = (line : List ℕ) × (text ≡ line ++ 10 ∷ []) × (told_in line ≡ Some told)
+abbrev pub IsKnownAs : (text : List ℕ) → KnownLine → Type 0
+IsKnownAs text known = (line : List ℕ) × (text ≡ line ++ 10 ∷ []) × (known_line line ≡ Some known)
 
 -- Each line that the program prints on its end, a run, a feed, a refused line and a rejected command is known, and so is
--- each line of a run that follows feeds. The message of the line is that of the event for which it was printed. Its
+-- each line of a run that follows feeds. What the line says is the event for which it was printed. Its
 -- numbers are at most the greatest that a command may have
 pub record KnowsAll : Type 0 where
   pub usage : IsKnownAs (stop_line stop.Usage) Usage

@@ -1,7 +1,7 @@
 -- The definitions of what lines mean, in words.
 pub mod Parts
 pub mod Codes
-pub mod Tolds
+pub mod KnownLines
 pub mod Words
 pub mod Meanings
 pub mod Shown

@@ -1,14 +1,14 @@
 -- The meaning of a line in words.
 use Rattle.std.specs.Prelude.{ℕ, List, [], ◌∷◌, ◌++◌, codes}
 use Rattle.std.specs.Fmt.{decimal}
-use Rattle.cmd_explain.specs.declared.told.Told.{Told}
-use Rattle.cmd_explain.specs.declared.told.Told.TheVariants.{Usage, Input, Feeds, FeedTwice, Memory, Output, Open, Inventory, Journal, Fault, State, StateLine, StateInventory, StateJournal, Following, Waits, Replaced, Anew, Ended, ClockAhead, Absent, NewInventory, InventoryRefused, ToldMissing, Refused, Rejected, Feed}
+use Rattle.cmd_explain.specs.declared.known.KnownLine.{KnownLine}
+use Rattle.cmd_explain.specs.declared.known.KnownLine.TheVariants.{Usage, Input, Feeds, FeedTwice, Memory, Output, Open, Inventory, Journal, Fault, State, StateLine, StateInventory, StateJournal, Following, Waits, Replaced, Anew, Ended, ClockAhead, Absent, NewInventory, InventoryRefused, ToldMissing, Refused, Rejected, Feed}
 use Rattle.cmd_explain.specs.declared.pieces.Piece.{Piece}
 use Rattle.cmd_explain.specs.declared.pieces.Piece.TheVariants as code
 use Rattle.cmd_explain.specs.Words.{inventory_words, journal_words, state_line_words, state_words, run_words, absence_words, ending_words, fault_words, reason_words}
 
 -- the meaning of what a line says, in pieces
-abbrev pub pieces_of : Told → List (List ℕ)
+abbrev pub pieces_of : KnownLine → List (List ℕ)
 pieces_of Usage = codes "the words ask for nothing that the program does, or a value is out of its range" ∷ []
 pieces_of Input = codes "the input could not be read to its end" ∷ []
 pieces_of Feeds = codes "there is no separator, or no feed, or there are more than 64, a clock among them" ∷ []
@@ -45,8 +45,8 @@ together [] = []
 together (piece ∷ pieces) = piece ++ together pieces
 
 -- the meaning of what a line says
-abbrev pub meaning : Told → List ℕ
-meaning told = together (pieces_of told)
+abbrev pub meaning : KnownLine → List ℕ
+meaning known = together (pieces_of known)
 
 -- ---- of private contracts alone
 

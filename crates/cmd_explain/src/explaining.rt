@@ -1,56 +1,56 @@
 //! Makes the explained text: each line of a text, and after each known line a line with its meaning.
 ghost use Rattle.std.specs.Prelude.{◌≡◌, ◌<◌, ◌++◌, ◌∷◌, [], IfOk, OnSome, MatchOption};
 ghost use Rattle.cmd_types.specs.TextLines.{left, lines_left};
-ghost use Rattle.cmd_explain.specs.Explained.{told_by_path, told_in, is_known, whole_lines, shown_lines, ended, explained, is_all_known};
+ghost use Rattle.cmd_explain.specs.Explained.{line_by_path, known_line, is_known, whole_lines, shown_lines, ended, explained, is_all_known};
 
 use crate::kinds::kind_of;
+use crate::known::{KnownLine, line_of};
 use crate::meaning::put_meaning;
 use crate::parts::parts_of;
-use crate::told::{Told, told_of};
 use cmd_types::{Memory, TextLines, without_returns};
 use std::alloc::Global;
 
-/// The message of a line that names a file: any bytes may be its path. `None` for any other line.
-fn told_by_path(line: &[u8]) -> Option<Told>
-    ensures { result ≡ told_by_path line.now }
+/// What a line that names a file says: any bytes may be its path. `None` for any other line.
+fn line_by_path(line: &[u8]) -> Option<KnownLine>
+    ensures { result ≡ line_by_path line.now }
 {
     if line.starts_with(b"gateway: open ") {
-        return Some(Told::Open);
+        return Some(KnownLine::Open);
     }
     if !line.starts_with(b"gateway: feed ") {
         return None;
     }
     if line.ends_with(b": not there") {
-        Some(Told::Absent { is_there: false })
+        Some(KnownLine::Absent { is_there: false })
     } else if line.ends_with(b": not opened") {
-        Some(Told::Absent { is_there: true })
+        Some(KnownLine::Absent { is_there: true })
     } else {
         None
     }
 }
 
-/// The message of a line that the program prints; `None` for any other line. `line` is without its line feed (profile).
+/// What a line that the program prints says; `None` for any other line. `line` is without its line feed (profile).
 ///
 /// # Errors
 /// Out of memory.
 ///
 /// ```
-/// let told = told_in(alloc, b"gateway: feed 3: replaced");
-/// assert_eq!(rt; told, Ok(Some(Told::Replaced { feed: 3 })));
-/// assert_eq!(rt; told_in(alloc, b"clock;1200"), Ok(None));
+/// let known = known_line(alloc, b"gateway: feed 3: replaced");
+/// assert_eq!(rt; known, Ok(Some(KnownLine::Replaced { feed: 3 })));
+/// assert_eq!(rt; known_line(alloc, b"clock;1200"), Ok(None));
 /// ```
-#[tactic(auto, unfolding(crate::specs::Explained::told_in))]
-pub fn told_in(alloc: Global, line: &[u8]) -> Result<Option<Told>, Memory>
-    ensures { IfOk result (λ told. told ≡ told_in line.now) }
+#[tactic(auto, unfolding(crate::specs::Explained::known_line))]
+pub fn known_line(alloc: Global, line: &[u8]) -> Result<Option<KnownLine>, Memory>
+    ensures { IfOk result (λ known. known ≡ known_line line.now) }
 {
-    if let Some(told) = told_by_path(line) {
-        return Ok(Some(told));
+    if let Some(known) = line_by_path(line) {
+        return Ok(Some(known));
     }
     let Some(parts) = parts_of(alloc, line)? else {
         return Ok(None);
     };
     match kind_of(&parts.form) {
-        Some(kind) => Ok(told_of(kind, &parts.numbers)),
+        Some(kind) => Ok(line_of(kind, &parts.numbers)),
         None => Ok(None),
     }
 }
@@ -62,10 +62,10 @@ fn put_explained(alloc: Global, out: &mut Vec<u8>, line: &[u8]) -> Result<bool, 
 {
     out.extend_from_slice(line)?;
     out.push(b'\n')?;
-    match told_in(alloc, without_returns(line))? {
-        Some(told) => {
+    match known_line(alloc, without_returns(line))? {
+        Some(known) => {
             out.extend_from_slice(b"    ")?;
-            put_meaning(out, told)?;
+            put_meaning(out, known)?;
             out.push(b'\n')?;
             Ok(true)
         }

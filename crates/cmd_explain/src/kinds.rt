@@ -1,6 +1,6 @@
 //! The kinds of lines that the program prints, each with the form of its lines.
 ghost use Rattle.std.specs.Prelude.{◌≡◌};
-ghost use Rattle.cmd_explain.specs.Tolds.{state_form, ended_form, feed_form, form_of, kind_of};
+ghost use Rattle.cmd_explain.specs.KnownLines.{state_form, ended_form, feed_form, form_of, kind_of};
 
 use cmd_answer::StateWord;
 use cmd_run::Ending;
@@ -168,7 +168,7 @@ fn form_of(kind: LineKind) -> &'static [u8]
 }
 
 /// The kind whose form is `form`; `None` where no kind has this form.
-#[tactic(auto, unfolding(crate::specs::Tolds::kind_of))]
+#[tactic(auto, unfolding(crate::specs::KnownLines::kind_of))]
 pub fn kind_of(form: &[u8]) -> Option<LineKind>
     ensures { result ≡ kind_of form.now }
 {

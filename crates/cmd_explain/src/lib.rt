@@ -1,12 +1,13 @@
 //! Explains the lines that the program prints: after each known line comes a line with its meaning. A line is known
 //! where the program prints lines of its form, which is the line with each number written as 0 (`kinds`). A line that
-//! names a file is known by the words around the path. The kind and the numbers of a line make its message (`told`).
+//! names a file is known by the words around the path. The kind and the numbers of a line give what it says (`known`).
 //! Tables turn the numbers into causes (`codes`), and causes into words (`words`).
 #![tactic(auto)]
 
 mod codes;
 mod explaining;
 mod kinds;
+mod known;
 mod laws;
 mod meaning;
 mod parts;
@@ -14,12 +15,11 @@ mod pieces;
 mod serving;
 mod showing;
 mod stopping;
-mod told;
 mod words;
 
-pub use explaining::{explain, told_in};
+pub use explaining::{explain, known_line};
+pub use known::KnownLine;
 pub use laws::{every_line_is_known, explaining_loses_nothing};
 pub use serving::serve_explain;
 pub use showing::put_shown_line;
 pub use stopping::stopped_in_words;
-pub use told::Told;

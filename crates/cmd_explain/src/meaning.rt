@@ -1,13 +1,13 @@
-//! The meaning of a line in words: one sentence for each message. Each function `put_..` appends to `out` and changes
+//! The meaning of a line in words: one sentence for each kind of line. Each function `put_..` appends to `out` and changes
 //! nothing else; if memory runs out, a part of the words is in `out`.
 ghost use Rattle.std.specs.Prelude.{◌≡◌, ◌++◌, [], ◌∷◌, codes, OnOk};
 ghost use Rattle.std.specs.Fmt.{decimal};
 ghost use Rattle.cmd_explain.specs.Meanings.{meaning, together};
 ghost use Rattle.cmd_explain.specs.Words.{run_words, fault_words};
 
+use crate::known::KnownLine;
 use crate::pieces::Piece::{Number, Words};
 use crate::pieces::put_pieces;
-use crate::told::Told;
 use crate::words::{
     absence_words, ending_words, inventory_words, journal_words, reason_words, state_line_words,
     state_words,
@@ -137,14 +137,14 @@ fn put_file(out: &mut Vec<u8>, feed: u64, words: &[u8]) -> Result<(), Memory>
 
 /// Appends the sentence on a jump of the system's clock, which moved by `seconds` more than the time that passed.
 fn put_jump(out: &mut Vec<u8>, seconds: u64) -> Result<(), Memory>
-    ensures { OnOk result (out.new.items ≡ out.old.items ++ meaning (Told.ClockAhead seconds)) }
+    ensures { OnOk result (out.new.items ≡ out.old.items ++ meaning (KnownLine.ClockAhead seconds)) }
 {
     put_pieces(out, &[Words(JUMPED), Number(seconds), Words(USED_AGAIN)])
 }
 
 /// Appends the sentence on a new inventory that was taken, with the number of its hosts and of its services.
 fn put_inventory(out: &mut Vec<u8>, hosts: u64, services: u64) -> Result<(), Memory>
-    ensures { OnOk result (out.new.items ≡ out.old.items ++ meaning (Told.NewInventory hosts services)) }
+    ensures { OnOk result (out.new.items ≡ out.old.items ++ meaning (KnownLine.NewInventory hosts services)) }
 {
     put_pieces(
         out,
@@ -175,7 +175,7 @@ fn put_old_inventory(out: &mut Vec<u8>, line: u64, words: &[u8]) -> Result<(), M
 
 /// Appends the sentence on a place whose file of told lines is not there.
 fn put_missing(out: &mut Vec<u8>, segment: u64, line: u64) -> Result<(), Memory>
-    ensures { OnOk result (out.new.items ≡ out.old.items ++ meaning (Told.ToldMissing segment line)) }
+    ensures { OnOk result (out.new.items ≡ out.old.items ++ meaning (KnownLine.ToldMissing segment line)) }
 {
     put_pieces(
         out,
@@ -194,7 +194,7 @@ fn put_missing(out: &mut Vec<u8>, segment: u64, line: u64) -> Result<(), Memory>
 /// Appends the sentence on a run that begins: the number of its feeds, of the entries before it, and the monitor's
 /// clock in seconds.
 fn put_start(out: &mut Vec<u8>, feeds: u64, entries: u64, clock: u64) -> Result<(), Memory>
-    ensures { OnOk result (out.new.items ≡ out.old.items ++ meaning (Told.Following feeds entries clock)) }
+    ensures { OnOk result (out.new.items ≡ out.old.items ++ meaning (KnownLine.Following feeds entries clock)) }
 {
     put_pieces(
         out,
@@ -211,7 +211,7 @@ fn put_start(out: &mut Vec<u8>, feeds: u64, entries: u64, clock: u64) -> Result<
 
 /// Appends the sentence on a command that waits, with the seconds by which it is ahead of the system's clock.
 fn put_wait(out: &mut Vec<u8>, feed: u64, line: u64, seconds: u64) -> Result<(), Memory>
-    ensures { OnOk result (out.new.items ≡ out.old.items ++ meaning (Told.Waits feed line seconds)) }
+    ensures { OnOk result (out.new.items ≡ out.old.items ++ meaning (KnownLine.Waits feed line seconds)) }
 {
     put_pieces(
         out,
@@ -277,7 +277,7 @@ fn put_feed(out: &mut Vec<u8>, feed: u64, accepted: u64, words: &[u8]) -> Result
 
 /// Appends the sentence on a run that failed by this cause.
 fn put_failure(out: &mut Vec<u8>, cause: RunCause) -> Result<(), Memory>
-    ensures { OnOk result (out.new.items ≡ out.old.items ++ meaning (Told.Fault cause)) }
+    ensures { OnOk result (out.new.items ≡ out.old.items ++ meaning (KnownLine.Fault cause)) }
 {
     out.extend_from_slice(b"the run failed: ")?;
     put_run_words(out, cause)
@@ -285,7 +285,7 @@ fn put_failure(out: &mut Vec<u8>, cause: RunCause) -> Result<(), Memory>
 
 /// Appends the sentence on a refused line of a feed, with the words for the line's fault.
 fn put_refusal(out: &mut Vec<u8>, feed: u64, line: u64, fault: LineFault) -> Result<(), Memory>
-    ensures { OnOk result (out.new.items ≡ out.old.items ++ meaning (Told.Refused feed line fault)) }
+    ensures { OnOk result (out.new.items ≡ out.old.items ++ meaning (KnownLine.Refused feed line fault)) }
 {
     put_pieces(
         out,
@@ -300,60 +300,60 @@ fn put_refusal(out: &mut Vec<u8>, feed: u64, line: u64, fault: LineFault) -> Res
     put_fault_words(out, fault)
 }
 
-/// Appends the meaning of a message: one sentence without a line feed. If memory runs out, a part of it is in `out`.
-pub fn put_meaning(out: &mut Vec<u8>, told: Told) -> Result<(), Memory>
-    ensures { OnOk result (out.new.items ≡ out.old.items ++ meaning told) }
+/// Appends the meaning of a line: one sentence without a line feed. If memory runs out, a part of it is in `out`.
+pub fn put_meaning(out: &mut Vec<u8>, known: KnownLine) -> Result<(), Memory>
+    ensures { OnOk result (out.new.items ≡ out.old.items ++ meaning known) }
 {
-    match told {
-        Told::Usage => out.extend_from_slice(USAGE),
-        Told::Input => out.extend_from_slice(b"the input could not be read to its end"),
-        Told::Feeds => out.extend_from_slice(FEEDS),
-        Told::FeedTwice => out.extend_from_slice(b"the words name a feed twice"),
-        Told::Memory => out.extend_from_slice(b"memory was wanting"),
-        Told::Output => out.extend_from_slice(b"the output failed: not all stands there"),
-        Told::Open => out.extend_from_slice(OPEN),
-        Told::Inventory { line, cause } => put_line(out, line, b"", inventory_words(cause)),
-        Told::Journal { line, cause } => {
+    match known {
+        KnownLine::Usage => out.extend_from_slice(USAGE),
+        KnownLine::Input => out.extend_from_slice(b"the input could not be read to its end"),
+        KnownLine::Feeds => out.extend_from_slice(FEEDS),
+        KnownLine::FeedTwice => out.extend_from_slice(b"the words name a feed twice"),
+        KnownLine::Memory => out.extend_from_slice(b"memory was wanting"),
+        KnownLine::Output => out.extend_from_slice(b"the output failed: not all stands there"),
+        KnownLine::Open => out.extend_from_slice(OPEN),
+        KnownLine::Inventory { line, cause } => put_line(out, line, b"", inventory_words(cause)),
+        KnownLine::Journal { line, cause } => {
             put_line(out, line, b" of the journal", journal_words(cause))
         }
-        Told::Fault { cause } => put_failure(out, cause),
-        Told::State { word } => out.extend_from_slice(state_words(word)),
-        Told::StateLine { line, cause } => {
+        KnownLine::Fault { cause } => put_failure(out, cause),
+        KnownLine::State { word } => out.extend_from_slice(state_words(word)),
+        KnownLine::StateLine { line, cause } => {
             put_line(out, line, b" of the file state", state_line_words(cause))
         }
-        Told::StateInventory { line, cause } => {
+        KnownLine::StateInventory { line, cause } => {
             put_line(out, line, IN_STATE, inventory_words(cause))
         }
-        Told::StateJournal { line, cause } => {
+        KnownLine::StateJournal { line, cause } => {
             put_line(out, line, IN_SEGMENT, journal_words(cause))
         }
-        Told::Following {
+        KnownLine::Following {
             feeds,
             entries,
             clock,
         } => put_start(out, feeds, entries, clock),
-        Told::Waits {
+        KnownLine::Waits {
             feed,
             line,
             seconds,
         } => put_wait(out, feed, line, seconds),
-        Told::Replaced { feed } => put_file(out, feed, REPLACED),
-        Told::Anew { feed } => put_file(out, feed, ANEW),
-        Told::Ended { feed, ending } => put_end(out, feed, ending_words(ending)),
-        Told::ClockAhead { seconds } => put_jump(out, seconds),
-        Told::Absent { is_there } => out.extend_from_slice(absence_words(is_there)),
-        Told::NewInventory { hosts, services } => put_inventory(out, hosts, services),
-        Told::InventoryRefused { line, cause } => {
+        KnownLine::Replaced { feed } => put_file(out, feed, REPLACED),
+        KnownLine::Anew { feed } => put_file(out, feed, ANEW),
+        KnownLine::Ended { feed, ending } => put_end(out, feed, ending_words(ending)),
+        KnownLine::ClockAhead { seconds } => put_jump(out, seconds),
+        KnownLine::Absent { is_there } => out.extend_from_slice(absence_words(is_there)),
+        KnownLine::NewInventory { hosts, services } => put_inventory(out, hosts, services),
+        KnownLine::InventoryRefused { line, cause } => {
             put_old_inventory(out, line, inventory_words(cause))
         }
-        Told::ToldMissing { segment, line } => put_missing(out, segment, line),
-        Told::Refused { feed, line, fault } => put_refusal(out, feed, line, fault),
-        Told::Rejected {
+        KnownLine::ToldMissing { segment, line } => put_missing(out, segment, line),
+        KnownLine::Refused { feed, line, fault } => put_refusal(out, feed, line, fault),
+        KnownLine::Rejected {
             feed,
             place,
             reason,
         } => put_rejection(out, feed, place, reason_words(reason)),
-        Told::Feed {
+        KnownLine::Feed {
             feed,
             accepted,
             ending,

@@ -16,7 +16,7 @@ fn text_of(alloc: Global, stop: FilesStop<'_>) -> Result<Vec<u8>, Memory>
     ensures { IfOk result (λ text. text.items ≡ stop_in_words stop.entry) }
 {
     let mut line = Vec::new(alloc);
-    if stop.tell(&mut line).is_err() {
+    if stop.print(&mut line).is_err() {
         return Err(AllocError);
     }
     let (text, _) = explain(alloc, &line)?;
@@ -24,7 +24,7 @@ fn text_of(alloc: Global, stop: FilesStop<'_>) -> Result<Vec<u8>, Memory>
 }
 
 /// Appends the line of a stop and its meaning to the error stream and nothing else, and returns the end of the call.
-/// Where `told` is false, the stream has only a prefix of that text (profile).
+/// Where `printed` is false, the stream has only a prefix of that text (profile).
 ///
 /// # Errors
 /// Out of memory; the stream is then unchanged.
@@ -47,14 +47,14 @@ pub fn stopped_in_words<E: Write>(
     errors: &mut E,
 ) -> Result<Ended, Memory>
     ensures status { IfOk result (λ e. e.status ≡ files_stop_status stop.entry) }
-    ensures text { IfOk result (λ e. e.told ≡ true → Appends (E.contents errors.old) (E.contents errors.new) (stop_in_words stop.entry)) }
-    ensures part { IfOk result (λ e. e.told ≡ false → AppendsPart (E.contents errors.old) (E.contents errors.new) (stop_in_words stop.entry)) }
+    ensures text { IfOk result (λ e. e.printed ≡ true → Appends (E.contents errors.old) (E.contents errors.new) (stop_in_words stop.entry)) }
+    ensures part { IfOk result (λ e. e.printed ≡ false → AppendsPart (E.contents errors.old) (E.contents errors.new) (stop_in_words stop.entry)) }
     ensures nothing { OnErr result (Keeps (E.contents errors.old) (E.contents errors.new)) }
 {
     let text = text_of(alloc, stop)?;
-    let told = write_text(errors, &text).is_ok();
+    let printed = write_text(errors, &text).is_ok();
     Ok(Ended {
         status: stop.status(),
-        told,
+        printed,
     })
 }

@@ -1,5 +1,6 @@
 -- A number is read digit by digit.
-use Rattle.std.proofs.Common.{◌≡◌, ◌≢◌, ℕ, ◌+◌, ◌-◌, ◌*◌, ◌<◌, ◌≤◌, ◌^◌, true, false, get_or, take, drop, List, [], ◌∷◌, ◌++◌, length, refl, sym, ap, ◌∙◌, arith}
+use Rattle.std.proofs.Common.{◌≡◌, ◌≢◌, ℕ, ◌+◌, ◌-◌, ◌*◌, ◌<◌, ◌≤◌, ◌^◌, true, false, get_or, take, drop, List, [], ◌∷◌, ◌++◌, length, refl, sym, ap, ◌∙◌, arith, append_assoc, length-append}
+use Rattle.std.proofs.Math.Seq.{take-append_seam}
 use Rattle.std.proofs.lemmas.Bool.{and_parts, leb-true}
 use Rattle.std.proofs.Math.Nat.{pow-le-pow_right}
 use Rattle.std.proofs.lemmas.Grind.{pow_more}
@@ -115,3 +116,32 @@ power_below n i lt below = omega (arith, pow-le-pow_right {n = 10} (omega arith)
 
 pub power_more : (n i d : ℕ) → n < 10 ^ i → d < 10 → n * 10 + d < 10 ^ (i + 1)
 power_more n i d below small = rw (pow_more 10 i) (omega (arith, below, small))
+
+-- ---- the same bytes again
+
+-- bytes that begin as others did lead with the same number
+pub known : (b : ℕ) (spelled bytes rest : List ℕ) (n : ℕ) → LeadsTo b spelled n [] → bytes ≡ spelled ++ rest → LeadsTo b bytes n rest
+known b spelled bytes rest n h is = record {
+  text = h.text;
+  parts = is ∙ ap (λ (xs : List ℕ). xs ++ rest) h.parts ∙ append_assoc h.text (b ∷ []) rest;
+  number = h.number;
+}
+
+last_of : (xs : List ℕ) (b : ℕ) → get_or (xs ++ b ∷ []) (length xs) 0 ≡ b
+last_of [] b = refl
+last_of (x ∷ xs) b = last_of xs b
+
+-- the bytes up to that byte, which is the last of them
+pub remembered : (b : ℕ) (bytes rest spelled : List ℕ) (n count : ℕ) → LeadsTo b bytes n rest → length bytes - length rest ≡ count + 1 → spelled ≡ take (count + 1) bytes → LeadsTo (get_or spelled count 0) spelled n []
+remembered b bytes rest spelled n count h long is =
+    let front = h.text ++ b ∷ [] in
+    let parts : bytes ≡ front ++ rest = h.parts ∙ sym (append_assoc h.text (b ∷ []) rest) in
+    let size : length front ≡ count + 1 = omega (arith, long, ap length parts, length-append front rest) in
+    let same : spelled ≡ front = is ∙ ap (λ (k : ℕ). take k bytes) (sym size) ∙ ap (take (length front)) parts ∙ take-append_seam front rest in
+    let one : length h.text ≡ count = omega (arith, size, length-append h.text (b ∷ [])) in
+    let last : get_or spelled count 0 ≡ b = ap (λ (xs : List ℕ). get_or xs count 0) same ∙ ap (λ (k : ℕ). get_or front k 0) (sym one) ∙ last_of h.text b in
+    record {
+      text = h.text;
+      parts = same ∙ ap (λ (x : ℕ). h.text ++ x ∷ []) (sym last);
+      number = h.number;
+    }

@@ -1,7 +1,6 @@
 -- A check result of a service that is spelled plainly is read as its parts.
-use Rattle.std.proofs.Common.{◌≡◌, ℕ, true, eqb, ◌-◌, ◌<◌, ◌≤◌, List, [], ◌∷◌, ◌++◌, length, get_or, drop, Ok, refl, sym, subst, take, arith, inl, inr}
-use lib.Pointwise.{pointwise}
-use Rattle.std.proofs.lemmas.Bool.{ne_eqb, eqb-true, and_parts}
+use Rattle.std.proofs.Common.{◌≡◌, ℕ, ◌-◌, ◌<◌, ◌≤◌, List, [], ◌∷◌, ◌++◌, length, get_or, drop, Ok, refl, sym, subst, take, arith, inl, inr}
+use Rattle.std.proofs.lemmas.Bool.{ne_eqb}
 use Rattle.std.proofs.lemmas.List.{take_rest}
 use Rattle.std.proofs.lemmas.Bool.Decides.{eqb_tells}
 use Rattle.cmd_types.specs.declared.command.Command.TheVariants as commands
@@ -53,14 +52,6 @@ code_is d output least most =
 last_is : (output : List ℕ) → rest_at 4 (59 ∷ output) ≡ Ok (output, [])
 unfolding rest_at opened
 last_is output = refl
-
-pub same_bytes : (xs ys : List ℕ) → pointwise eqb xs ys ≡ true → xs ≡ ys
-same_bytes [] [] e = refl
-same_bytes [] (y ∷ ys) e = absurd cc
-same_bytes (x ∷ xs) [] e = absurd cc
-same_bytes (x ∷ xs) (y ∷ ys) e =
-    let both = and_parts (eqb x y) (pointwise eqb xs ys) e in
-    rw (eqb-true x y both.0, same_bytes xs ys both.1) refl
 
 pub two_first : (xs : List ℕ) → 2 ≤ length xs → xs ≡ get_or xs 0 0 ∷ (get_or xs 1 0 ∷ take (length xs - 2) (drop 2 xs))
 two_first [] few = absurd (omega arith)

@@ -11,6 +11,11 @@ pub record LeadsTo (byte : ℕ) (bytes : List ℕ) (n : ℕ) (rest : List ℕ) :
   pub parts : bytes ≡ text ++ byte ∷ rest
   pub number : IsNumber text n
 
+-- a number that was read, and the bytes that spelled it, with the byte that ended them
+pub record Remembered : Type 0 where
+  pub spelled : List ℕ
+  pub number : ℕ
+
 -- ---- of private contracts alone
 
 -- as LeadsTo, for the bytes after count digits that were read, whose value is value

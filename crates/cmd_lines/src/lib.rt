@@ -10,6 +10,7 @@ mod fields;
 mod front;
 mod item;
 mod kept;
+mod last_number;
 mod leading;
 mod line_item;
 mod lines;
@@ -23,9 +24,10 @@ mod theorems;
 
 pub use fault::LineFault;
 pub use item::{Item, Put};
+pub use last_number::LastNumber;
 pub use leading::number_up_to;
 pub use lines::{Lines, MOST_FED};
-pub use parse::parse_line;
+pub use parse::{parse_line, parse_next};
 pub use skip::{Skip, Skipped, Skipping};
 pub use theorems::{
     a_canonical_line_is_one_item, canonical_is_no_longer, canonical_spells_one,

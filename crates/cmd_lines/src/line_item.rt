@@ -13,6 +13,7 @@ ghost use Rattle.cmd_lines.specs.Unfinished.{in_place};
 
 use crate::fault::LineFault;
 use crate::item::{Item, Put};
+use crate::last_number::LastNumber;
 use crate::parse::read_line;
 use crate::phase::Phase;
 use cmd_types::{LONGEST_LINE, Memory, Stamped, definitions_agree, without_returns};
@@ -35,6 +36,7 @@ pub fn put_at(
     alloc: Global,
     number: u64,
     line: &[u8],
+    last: &mut LastNumber,
     commands: &mut Vec<Stamped>,
 ) -> Result<Put, Memory>
     requires whole { IsWhole line.now }
@@ -48,7 +50,7 @@ pub fn put_at(
     // For the proof alone, at no cost when it runs: a line spells at most one command, and one of no more than its
     // bytes.
     definitions_agree();
-    match read_line(alloc, line) {
+    match read_line(alloc, line, last) {
         Ok(stamped) => {
             commands.push_reserved(stamped);
             Ok(Put::Command)
@@ -64,7 +66,12 @@ pub fn put_at(
 }
 
 /// Reads line `number`, which is not empty: returns its command, or its fault with the number.
-pub fn item_at(alloc: Global, number: u64, line: &[u8]) -> Result<Item, Memory>
+pub fn item_at(
+    alloc: Global,
+    number: u64,
+    line: &[u8],
+    last: &mut LastNumber,
+) -> Result<Item, Memory>
     requires { IsWhole line.now }
     ensures value { IfOk result (λ i. i ≡ item_of number line.now) }
     ensures of_text { IfOk result IsOfText }
@@ -73,7 +80,7 @@ pub fn item_at(alloc: Global, number: u64, line: &[u8]) -> Result<Item, Memory>
     // For the proof alone, at no cost when it runs: a line spells at most one command, and one of no more than its
     // bytes.
     definitions_agree();
-    match read_line(alloc, line) {
+    match read_line(alloc, line, last) {
         Ok(stamped) => Ok(Item::Command(stamped)),
         Err(fault) => {
             let fault = refusal(fault)?;
@@ -131,7 +138,7 @@ fn last_item(alloc: Global, phase: Phase, number: u64, rest: &[u8]) -> Result<Op
     match phase {
         Phase::Open => Ok(None),
         Phase::Finished => {
-            let item = item_at(alloc, number, line)?;
+            let item = item_at(alloc, number, line, &mut LastNumber::new())?;
             Ok(Some(item))
         }
         Phase::CutOff => {

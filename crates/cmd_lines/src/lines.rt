@@ -11,6 +11,7 @@ ghost use Rattle.cmd_lines.specs.Unfinished.{last_line, most_held};
 use crate::fault::LineFault;
 use crate::item::{Item, Put};
 use crate::kept::UnreadBytes;
+use crate::last_number::LastNumber;
 use crate::line_item::{item_at, put_at, rest_item};
 use crate::phase::Phase;
 use crate::step::{Step, next_line, past_empty};
@@ -43,6 +44,8 @@ pub struct Lines {
     number: u64,
     fed: u64,
     phase: Phase,
+    /// Reads the times of the lines.
+    last: LastNumber,
 }
 
 impl Model for Lines {
@@ -71,6 +74,7 @@ impl Lines {
             number: 1,
             fed: 0,
             phase: Phase::Open,
+            last: LastNumber::new(),
         }
     }
 
@@ -209,7 +213,7 @@ impl Lines {
         definitions_agree();
         match next_line(self.kept.bytes(), self.number) {
             Step::Line { line, rest, number } => {
-                let item = item_at(alloc, number, line)?;
+                let item = item_at(alloc, number, line, &mut self.last)?;
                 let left = rest.len();
                 self.kept.mark_read(left);
                 self.number = number + 1;
@@ -261,7 +265,7 @@ impl Lines {
         definitions_agree();
         match next_line(self.kept.bytes(), self.number) {
             Step::Line { line, rest, number } => {
-                let put = put_at(alloc, number, line, commands)?;
+                let put = put_at(alloc, number, line, &mut self.last, commands)?;
                 let waiting = rest.len();
                 self.kept.mark_read(waiting);
                 self.number = number + 1;

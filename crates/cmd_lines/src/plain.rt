@@ -39,10 +39,7 @@ pub fn plain_result(after: &[u8]) -> Option<Plain<'_>>
 {
     // For the proof alone, at no cost when it runs: the opening is read as the name.
     definitions_agree();
-    let (opening, rest) = after.split_at_checked(OPENING.len())?;
-    if opening != OPENING {
-        return None;
-    }
+    let rest = after.strip_prefix(OPENING)?;
     let (host, rest) = plain_name(rest)?;
     let (service, rest) = plain_name(rest)?;
     match rest {

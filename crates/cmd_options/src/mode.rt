@@ -131,7 +131,7 @@ pub struct ToldCall<'a> {
     pub after: Option<ToldPlace>,
     /// Notices of more than so many seconds before the system's clock are not printed; `None` for no bound.
     pub since: Option<u32>,
-    /// Whether the call goes on as lines are told.
+    /// Whether the call continues as lines are printed.
     pub follow: bool,
 }
 

@@ -156,7 +156,8 @@ fn next_message<R: Wait>(
 impl DispatcherSide {
     /// Takes the next command or close mark of the queue (profile). A command is of a sender that is not closed, at the
     /// place after the commands taken of that sender, and of the plan of the queue. A close mark has the number of its
-    /// sender's commands. Waits while the queue is empty. Where the queue is lost ([`Lost`]), nothing changes. Takes no memory.
+    /// sender's commands. Waits while the queue is empty. Where the queue is lost ([`Lost`]), nothing changes. Takes no
+    /// memory.
     pub fn take<R: Wait>(&mut self, rt: &R) -> Result<Taken, Lost>
         ensures side { (self.new.queue ≡ self.old.queue) × (self.new.senders ≡ self.old.senders) }
         ensures taken { IfOk result (λ x. self.new ≡ with_taken self.old x) }
@@ -219,8 +220,8 @@ impl DispatcherSide {
         self.take_message(rt, true).map_err(|_| Lost)
     }
 
-    /// Takes the whole front message as [`take_many`](DispatcherSide::take_many) does, but does not wait: returns `None`
-    /// where the queue is empty or lost, and then nothing changes (profile).
+    /// Takes the whole front message as [`take_many`](DispatcherSide::take_many) does, but does not wait: returns
+    /// `None` where the queue is empty or lost, and then nothing changes (profile).
     pub fn take_waiting<R: Wait>(&mut self, rt: &R) -> Option<TakenMessage>
         ensures side { (self.new.queue ≡ self.old.queue) × (self.new.senders ≡ self.old.senders) }
         ensures taken { IfSome result (λ x. self.new ≡ with_all_taken self.old (together_taken x)) }

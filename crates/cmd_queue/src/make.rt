@@ -78,8 +78,8 @@ pub fn queue<R>(
 }
 
 /// Makes a queue as [`queue`] does, with a plan that the caller chooses: a sender of which the plan knows all commands
-/// sends these, in order, and no others. So the dispatcher knows of each command that it takes that the plan has it at
-/// this place (profile).
+/// may send only these, in order. So the dispatcher knows of each command that it takes that the plan has it at this
+/// place (profile).
 ///
 /// ```
 /// let (sides, dispatcher) = planned_queue::<Brand, _>(&rt, alloc, 2, 4)?;
@@ -106,7 +106,8 @@ pub fn planned_queue<J: Planning, R>(
     make_queue::<J>(alloc, senders, capacity).map_err(|_| QueueFault::Memory)
 }
 
-/// Makes the queue of the plan with a side for each of `senders` senders. If memory runs out, all that was made is dropped.
+/// Makes the queue of the plan with a side for each of `senders` senders. If memory runs out, all that was made is
+/// dropped.
 fn make_queue<J: Planning>(
     alloc: Global,
     senders: u16,

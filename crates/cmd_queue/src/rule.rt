@@ -14,9 +14,9 @@ pub struct SenderMessages {
     pub list: LinkedList<Message>,
 }
 
-/// What a pass of the channel records for its holder, beside the plan of the queue. A sender's pass records its number and what it has sent. The
-/// dispatcher's pass records how many senders were made, what was taken, and the lists that it keeps. A closed sender's
-/// pass, once passed to the dispatcher, records nothing.
+/// What a pass of the channel records for its holder, beside the plan of the queue. A sender's pass records its number
+/// and what it has sent. The dispatcher's pass records how many senders were made, what was taken, and the lists that it
+/// keeps. A closed sender's pass, once passed to the dispatcher, records nothing.
 pub struct View {
     pub plan: LinkedList<Option<LinkedList<Stamped>>>,
     pub sends: bool,

@@ -121,8 +121,8 @@ impl SenderSide {
 
     /// Sends a command as this sender's next entry, and returns its place: `sent()` plus 1 (profile). Waits while the
     /// queue is full. Where the queue takes no further message, the command is returned, and nothing has changed.
-    /// Requires that fewer than 2^64 - 1 commands were [`sent`](SenderSide::sent), and that the command comes next in the
-    /// plan of the queue, where the plan knows this sender's commands. Takes no memory.
+    /// Requires that fewer than 2^64 - 1 commands were [`sent`](SenderSide::sent), and that the command comes next in
+    /// the plan of the queue, where the plan knows this sender's commands. Takes no memory.
     pub fn submit<R: Wait>(&mut self, rt: &R, stamped: Stamped) -> Result<u64, Returned>
         requires room { length self.old.list < 2 ^ 64 - 1 }
         requires planned { ComeFirst (planned_of self.old.queue.plan self.old.sender) (commands_in self.old.list ++ stamped ∷ []) }

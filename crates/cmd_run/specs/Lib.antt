@@ -1,4 +1,4 @@
--- The definitions of what a run tells.
+-- The definitions of what a run prints.
 pub mod Endings
 pub mod Causes
 pub mod Senders

@@ -2,6 +2,7 @@
 pub mod TableLaws
 pub mod ByteLists
 pub mod Cuts
+pub mod AtOnce
 pub mod LineLaws
 pub mod DigitLoop
 pub mod Numerals

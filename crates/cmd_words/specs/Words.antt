@@ -10,7 +10,7 @@ use Rattle.cmd_options.specs.declared.mode.Mode.TheVariants as modes
 use Rattle.cmd_words.specs.declared.mode_name.ModeName.{ModeName}
 use Rattle.cmd_words.specs.declared.mode_name.ModeName.TheVariants as name
 
--- the options of a run that words give: they are in their ranges, and a feed is read as often as a count can tell
+-- the options of a run that words give: they are in their ranges, and a feed is read at most as often as a count can say
 abbrev pub AreOfWords : RunOptions → Type 0
 AreOfWords options = AreInRange options × (options.reads ≡ MOST_READS)
 

@@ -5,12 +5,12 @@ mod ends;
 mod examples;
 mod followed;
 
-use cmd_explain::{explain, serve_explain, told_in};
+use cmd_explain::{explain, known_line, serve_explain};
 use std::alloc::{AllocGlobal, Global};
 use std::process::Abort;
 use std::test::*;
 
-/// A line that the program tells, and its meaning.
+/// A line that the program prints, and its meaning.
 type LineMeaning = (&'static str, &'static str);
 
 /// The lines on refused lines.
@@ -133,7 +133,7 @@ const OTHERS: &[LineMeaning] = &[
     ("gateway: output", "the output failed: not all stands there"),
 ];
 
-/// Lines that the program does not tell.
+/// Lines that the program does not print.
 const UNKNOWN: &[&str] = &[
     "",
     " ",
@@ -238,7 +238,7 @@ fn other_lines_of_the_program(rt: HostRuntime) -> Result<(), Fail> {
 fn other_lines_are_left(rt: HostRuntime) -> Result<(), Fail> {
     let alloc = rt.alloc();
     for line in UNKNOWN {
-        assert!(rt; told_in(alloc, line.as_bytes()) == Ok(None), "{line}");
+        assert!(rt; known_line(alloc, line.as_bytes()) == Ok(None), "{line}");
     }
     let wanted = text_of(alloc, UNKNOWN)?;
     let Ok((text, is_known)) = explain(alloc, &wanted) else {

@@ -3,14 +3,14 @@ use denote.RattleType.{RattleType}
 use denote.Ref.{NamedLft}
 use denote.Param.Send.{IsSend, IsSync, sendable}
 use Rattle.std.proofs.Crossing.{crosses}
-use Rattle.gateway.specs.contracts.live.backlog.Standing as Standing
-use Rattle.gateway.specs.contracts.live.backlog.Backlog as Backlog
-use Rattle.gateway.specs.contracts.live.flag.Flag as Flag
-use Rattle.gateway.specs.contracts.live.gate.Gate as Gate
-use Rattle.gateway.specs.contracts.live.renewal.Renewal as Renewal
-use Rattle.gateway.specs.contracts.live.ticking.Seen as Seen
-use Rattle.gateway.specs.contracts.pipe_text.PipeText as PipeText
-use Rattle.gateway.specs.contracts.seen_lines.SeenLines as SeenLines
+use Rattle.cmd_live.specs.contracts.live.backlog.Standing as Standing
+use Rattle.cmd_live.specs.contracts.live.backlog.Backlog as Backlog
+use Rattle.cmd_live.specs.contracts.live.flag.Flag as Flag
+use Rattle.cmd_live.specs.contracts.live.gate.Gate as Gate
+use Rattle.cmd_live.specs.contracts.live.renewal.Renewal as Renewal
+use Rattle.cmd_live.specs.contracts.live.ticking.Seen as Seen
+use Rattle.cmd_live.specs.contracts.pipe_text.PipeText as PipeText
+use Rattle.cmd_live.specs.contracts.seen_lines.SeenLines as SeenLines
 
 Standing-send : IsSend Standing.the_field.row
 Standing-send = search (sendable, crosses) depth 30

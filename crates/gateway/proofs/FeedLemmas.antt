@@ -28,8 +28,8 @@ use Rattle.cmd_dispatch.specs.Dispatches.{Means}
 use Rattle.cmd_options.specs.Options.{MayRun}
 use Rattle.cmd_options.specs.declared.options.RunOptions.{RunOptions}
 use Rattle.cmd_dispatch.specs.RunCalls.{Source, RunCall, read_as, sources}
-use Rattle.cmd_dispatch.specs.Runs.{outcome, IsTold, HasRun, HasFailed}
-use Rattle.cmd_dispatch.specs.Told.{told, IsDelivered, IsEnded}
+use Rattle.cmd_dispatch.specs.Runs.{outcome, IsReported, HasRun, HasFailed}
+use Rattle.cmd_dispatch.specs.Delivered.{items_by, IsDelivered, IsEnded}
 use Rattle.cmd_answer.specs.Printed.{commands_of, refusals_of, fault_line, feed_lines, sender_lines, all_feed_lines, is_clean, refuses_none, sender_status, figures_part, journal_part, run_text, IsPrinted, figures_of}
 use Rattle.gateway.specs.Answers.{IsRunPrinted, HasReport, AnswersFeeds, AreShort, Answers, AnswersFiles}
 use Rattle.gateway.specs.Watched.{IsWatched, figures_in}
@@ -54,7 +54,7 @@ whole_feed piece feed text Memory d short h = absurd h
 whole_feed piece feed text QueueRefused d short h = absurd h
 
 -- so this is said of it
-record IsTellOf (k : ℕ) (feed : List ℕ) (journal : List Entry) (r : SenderReport) : Type 0 where
+record IsReportOf (k : ℕ) (feed : List ℕ) (journal : List Entry) (r : SenderReport) : Type 0 where
   ending : r.ending ≡ Whole
   accepted : r.accepted ≡ length (commands_of feed)
   refused : r.refused.items ≡ refusals_of feed
@@ -62,12 +62,12 @@ record IsTellOf (k : ℕ) (feed : List ℕ) (journal : List Entry) (r : SenderRe
 
 -- a feed over memory
 abbrev in_memory : (piece : ℕ) → List ℕ → Source
-in_memory piece feed = record { tells = Some feed; fails = false; fills = true; piece = piece; reads = MOST_READS }
+in_memory piece feed = record { remaining = Some feed; fails = false; fills = true; piece = piece; reads = MOST_READS }
 
-told_feed : (piece k : ℕ) (feed : List ℕ) (journal : List Entry) (r : SenderReport) → length feed + piece ≤ MOST_READS * piece → IsTold (in_memory piece feed) k journal r → IsTellOf k feed journal r
-told_feed piece k feed journal r short t =
+reported_feed : (piece k : ℕ) (feed : List ℕ) (journal : List Entry) (r : SenderReport) → length feed + piece ≤ MOST_READS * piece → IsReported (in_memory piece feed) k journal r → IsReportOf k feed journal r
+reported_feed piece k feed journal r short t =
     let whole = whole_feed piece feed t.text r.ending t.delivered short t.ended in
-    let same : told r.ending t.text ≡ items feed = ap (λ (e : Ending). told e t.text) whole.0 ∙ ap items whole.1 in
+    let same : items_by r.ending t.text ≡ items feed = ap (λ (e : Ending). items_by e t.text) whole.0 ∙ ap items whole.1 in
     record {
       ending = whole.0;
       accepted = t.accepted ∙ ap (λ (is : List Item). length (commands is)) same;
@@ -76,39 +76,39 @@ told_feed piece k feed journal r short t =
     }
 
 -- of each of these feeds, the first being feed n
-abbrev pub AreTellsFrom : (piece : ℕ) → ℕ → List (List ℕ) → List Entry → List SenderReport → Type 0
-AreTellsFrom piece n feeds journal reports =
-    (k : ℕ) (f : List ℕ) (r : SenderReport) → k < length feeds → IsTold (in_memory piece (get_or feeds k f)) (n + k) journal (get_or reports k r)
+abbrev pub AreReportsFrom : (piece : ℕ) → ℕ → List (List ℕ) → List Entry → List SenderReport → Type 0
+AreReportsFrom piece n feeds journal reports =
+    (k : ℕ) (f : List ℕ) (r : SenderReport) → k < length feeds → IsReported (in_memory piece (get_or feeds k f)) (n + k) journal (get_or reports k r)
 
-rest_told : (piece n : ℕ) (feed : List ℕ) (feeds : List (List ℕ)) (journal : List Entry) (r : SenderReport) (reports : List SenderReport) → AreTellsFrom piece n (feed ∷ feeds) journal (r ∷ reports) → AreTellsFrom piece (n + 1) feeds journal reports
-rest_told piece n feed feeds journal r reports t = λ k f s h.
+rest_reported : (piece n : ℕ) (feed : List ℕ) (feeds : List (List ℕ)) (journal : List Entry) (r : SenderReport) (reports : List SenderReport) → AreReportsFrom piece n (feed ∷ feeds) journal (r ∷ reports) → AreReportsFrom piece (n + 1) feeds journal reports
+rest_reported piece n feed feeds journal r reports t = λ k f s h.
     (let next : n + suc k ≡ n + 1 + k = omega arith in
-    subst (λ (m : ℕ). IsTold (in_memory piece (get_or feeds k f)) m journal (get_or reports k s)) next (t (suc k) f s (omega arith)))
+    subst (λ (m : ℕ). IsReported (in_memory piece (get_or feeds k f)) m journal (get_or reports k s)) next (t (suc k) f s (omega arith)))
 
-lines_same : (piece n : ℕ) (feeds : List (List ℕ)) (journal : List Entry) (reports : List SenderReport) → AreShort piece feeds → length reports ≡ length feeds → AreTellsFrom piece n feeds journal reports → sender_lines n reports ≡ all_feed_lines n feeds
+lines_same : (piece n : ℕ) (feeds : List (List ℕ)) (journal : List Entry) (reports : List SenderReport) → AreShort piece feeds → length reports ≡ length feeds → AreReportsFrom piece n feeds journal reports → sender_lines n reports ≡ all_feed_lines n feeds
 unfolding sender_lines all_feed_lines
 lines_same piece n [] journal [] short many t = refl
 lines_same piece n [] journal (r ∷ reports) short many t = absurd (omega arith)
 lines_same piece n (feed ∷ feeds) journal [] short many t = absurd (omega arith)
 lines_same piece n (feed ∷ feeds) journal (r ∷ reports) short many t =
-    let head = told_feed piece (n + 0) feed journal r short.0 (t 0 feed r (omega arith)) in
+    let head = reported_feed piece (n + 0) feed journal r short.0 (t 0 feed r (omega arith)) in
     let first : feed_lines n r.accepted r.ending r.refused.items ≡ feed_lines n (length (commands_of feed)) Whole (refusals_of feed) =
     ap (λ (a : ℕ). feed_lines n a r.ending r.refused.items) head.accepted
     ∙ ap (λ (e : Ending). feed_lines n (length (commands_of feed)) e r.refused.items) head.ending
     ∙ ap (feed_lines n (length (commands_of feed)) Whole) head.refused in
     ap (λ (xs : List ℕ). xs ++ sender_lines (n + 1) reports) first
-    ∙ ap (λ (xs : List ℕ). feed_lines n (length (commands_of feed)) Whole (refusals_of feed) ++ xs) (lines_same piece (n + 1) feeds journal reports short.1 (omega arith) (rest_told piece n feed feeds journal r reports t))
+    ∙ ap (λ (xs : List ℕ). feed_lines n (length (commands_of feed)) Whole (refusals_of feed) ++ xs) (lines_same piece (n + 1) feeds journal reports short.1 (omega arith) (rest_reported piece n feed feeds journal r reports t))
 
-clean_same : (piece n : ℕ) (feeds : List (List ℕ)) (journal : List Entry) (reports : List SenderReport) → AreShort piece feeds → length reports ≡ length feeds → AreTellsFrom piece n feeds journal reports
+clean_same : (piece n : ℕ) (feeds : List (List ℕ)) (journal : List Entry) (reports : List SenderReport) → AreShort piece feeds → length reports ≡ length feeds → AreReportsFrom piece n feeds journal reports
     → list_all is_clean reports ≡ list_all (λ feed. refuses_none (refusals_of feed)) feeds
 clean_same piece n [] journal [] short many t = refl
 clean_same piece n [] journal (r ∷ reports) short many t = absurd (omega arith)
 clean_same piece n (feed ∷ feeds) journal [] short many t = absurd (omega arith)
 clean_same piece n (feed ∷ feeds) journal (r ∷ reports) short many t =
-    let head = told_feed piece (n + 0) feed journal r short.0 (t 0 feed r (omega arith)) in
+    let head = reported_feed piece (n + 0) feed journal r short.0 (t 0 feed r (omega arith)) in
     let first : is_clean r ≡ refuses_none (refusals_of feed) = clean_one r.ending head.ending ∙ ap refuses_none head.refused in
     ap (λ (b : Bool). b && list_all is_clean reports) first
-    ∙ ap (λ (b : Bool). refuses_none (refusals_of feed) && b) (clean_same piece (n + 1) feeds journal reports short.1 (omega arith) (rest_told piece n feed feeds journal r reports t))
+    ∙ ap (λ (b : Bool). refuses_none (refusals_of feed) && b) (clean_same piece (n + 1) feeds journal reports short.1 (omega arith) (rest_reported piece n feed feeds journal r reports t))
   where
     clean_one : (e : Ending) → e ≡ Whole → is_clean (record r { ending = e }) ≡ refuses_none r.refused.items
     clean_one Whole h = refl
@@ -122,15 +122,15 @@ short_at piece [] k feed short e = absurd (cc)
 short_at piece (x ∷ feeds) zero feed short e = let same : x ≡ feed = cc in subst (λ (f : List ℕ). length f + piece ≤ MOST_READS * piece) same short.0
 short_at piece (x ∷ feeds) (suc k) feed short e = short_at piece feeds k feed short.1 e
 
-each_told : (piece : ℕ) (feeds : List (List ℕ)) (journal : List Entry) (reports : List SenderReport) → AreShort piece feeds → length reports ≡ length feeds → AreTellsFrom piece 0 feeds journal reports
+each_reported : (piece : ℕ) (feeds : List (List ℕ)) (journal : List Entry) (reports : List SenderReport) → AreShort piece feeds → length reports ≡ length feeds → AreReportsFrom piece 0 feeds journal reports
     → (k : ℕ) (feed : List ℕ) → slice_get feeds k ≡ Some feed → of_sender k journal ≡ entries_of k (commands_of feed)
-each_told piece feeds journal [] short many t k feed e = absurd (omega (arith, slice_get_within feeds k feed e))
-each_told piece feeds journal (r ∷ reports) short many t k feed e =
+each_reported piece feeds journal [] short many t k feed e = absurd (omega (arith, slice_get_within feeds k feed e))
+each_reported piece feeds journal (r ∷ reports) short many t k feed e =
     let is : get_or feeds k feed ≡ feed = get_or_from_slice_get feeds k feed feed e in
     let first : 0 + k ≡ k = omega arith in
-    let here : IsTold (in_memory piece (get_or feeds k feed)) k journal (get_or (r ∷ reports) k r) =
-    subst (λ (m : ℕ). IsTold (in_memory piece (get_or feeds k feed)) m journal (get_or (r ∷ reports) k r)) first (t k feed r (slice_get_within feeds k feed e)) in
-    (told_feed piece k feed journal (get_or (r ∷ reports) k r) (short_at piece feeds k feed short e) (subst (λ (f : List ℕ). IsTold (in_memory piece f) k journal (get_or (r ∷ reports) k r)) is here)).journaled
+    let here : IsReported (in_memory piece (get_or feeds k feed)) k journal (get_or (r ∷ reports) k r) =
+    subst (λ (m : ℕ). IsReported (in_memory piece (get_or feeds k feed)) m journal (get_or (r ∷ reports) k r)) first (t k feed r (slice_get_within feeds k feed e)) in
+    (reported_feed piece k feed journal (get_or (r ∷ reports) k r) (short_at piece feeds k feed short e) (subst (λ (f : List ℕ). IsReported (in_memory piece f) k journal (get_or (r ∷ reports) k r)) is here)).journaled
 
 -- the journal of one feed is its list
 alone_is : (feeds : List (List ℕ)) (journal : List Entry) → (length feeds ≡ 1 → of_sender 0 journal ≡ journal)
@@ -144,20 +144,20 @@ pub printed_feeds : (options : Options) (inv : Configuration) (feeds : List (Lis
 printed_feeds options inv feeds text status most r short =
     let many : length (sources Some (λ _. false) (λ _. true) options.run feeds) ≡ length feeds = length-map feeds (read_as Some (λ _. false) (λ _. true) options.run) in
     let one_each : length r.reports ≡ length feeds = r.one_each ∙ many in
-    let tells : AreTellsFrom options.run.piece 0 feeds r.entries r.reports = λ k f s h.
+    let remaining : AreReportsFrom options.run.piece 0 feeds r.entries r.reports = λ k f s h.
     (let first : k ≡ 0 + k = omega arith in
     let source : Source = in_memory options.run.piece f in
     let here : get_or (sources Some (λ _. false) (λ _. true) options.run feeds) k source ≡ in_memory options.run.piece (get_or feeds k f) =
-    get_or-map (read_as Some (λ _. false) (λ _. true) options.run) feeds k f source h ∙ (λ i. record { tells = Some (get_or feeds k f); fails = false; fills = true; piece = options.run.piece; reads = most i }) in
-    subst (λ (y : Source × ℕ). IsTold y.0 y.1 r.entries (get_or r.reports k s)) (λ i. (here i, first i)) (r.told_are k source s (omega (arith, many, h)))) in
-    let each = each_told options.run.piece feeds r.entries r.reports short one_each tells in
+    get_or-map (read_as Some (λ _. false) (λ _. true) options.run) feeds k f source h ∙ (λ i. record { remaining = Some (get_or feeds k f); fails = false; fills = true; piece = options.run.piece; reads = most i }) in
+    subst (λ (y : Source × ℕ). IsReported y.0 y.1 r.entries (get_or r.reports k s)) (λ i. (here i, first i)) (r.reported_are k source s (omega (arith, many, h)))) in
+    let each = each_reported options.run.piece feeds r.entries r.reports short one_each remaining in
     let shown = figures_of options.asked.figures inv r.entries in
     record {
       entries = r.entries;
       interleaved = record { known = subst (λ (n : ℕ). AreOf n r.entries) many r.known; each = each; alone = alone_is feeds r.entries (λ one. r.alone (many ∙ one)) each };
       within = r.within;
-      text_is = r.text_is ∙ ap (λ (ls : List ℕ). report inv (meaning inv r.entries) ++ ls ++ figures_part shown ++ journal_part options.asked.journal r.entries) (lines_same options.run.piece 0 feeds r.entries r.reports short one_each tells);
-      status_is = r.status_is ∙ ap (λ (b : Bool). if b then 0 else 1) (clean_same options.run.piece 0 feeds r.entries r.reports short one_each tells);
+      text_is = r.text_is ∙ ap (λ (ls : List ℕ). report inv (meaning inv r.entries) ++ ls ++ figures_part shown ++ journal_part options.asked.journal r.entries) (lines_same options.run.piece 0 feeds r.entries r.reports short one_each remaining);
+      status_is = r.status_is ∙ ap (λ (b : Bool). if b then 0 else 1) (clean_same options.run.piece 0 feeds r.entries r.reports short one_each remaining);
     }
 
 -- ---- the answer to feeds that were run
@@ -184,7 +184,7 @@ answered fed feeds options inv (Ok r) watched text status many ran bad failed is
       entries = r.journal.entries;
       reports = r.senders.items;
       one_each = ran.one_each;
-      told_are = ran.told_are;
+      reported_are = ran.reported_are;
       known = ran.known;
       alone = ran.alone;
       within = ran.within;
@@ -221,7 +221,7 @@ module _ (fed : List Source) (options : Options) (inv : Configuration) (es none 
         entries = es;
         reports = reports;
         one_each = ran.one_each;
-        told_are = ran.told_are;
+        reported_are = ran.reported_are;
         known = ran.known;
         alone = ran.alone;
         within = ran.within;
@@ -247,17 +247,17 @@ module _ (fed : List Source) (options : Options) (inv : Configuration) (es none 
         },
       )
 
--- ---- from the readers to what they tell
+-- ---- from the readers to what they deliver
 
 -- readers that are known by what they are taken for are read as that is
-sources_as : {F G : Type 0} (h : F → G) (tells : G → Option (List ℕ)) (fails fills : G → Bool) (options : RunOptions) (readers : List F)
-    → sources (λ f. tells (h f)) (λ f. fails (h f)) (λ f. fills (h f)) options readers ≡ sources tells fails fills options (map h readers)
-sources_as h tells fails fills options readers = sym (map-map (read_as tells fails fills options) h readers)
+sources_as : {F G : Type 0} (h : F → G) (remaining : G → Option (List ℕ)) (fails fills : G → Bool) (options : RunOptions) (readers : List F)
+    → sources (λ f. remaining (h f)) (λ f. fails (h f)) (λ f. fills (h f)) options readers ≡ sources remaining fails fills options (map h readers)
+sources_as h remaining fails fills options readers = sym (map-map (read_as remaining fails fills options) h readers)
 
 -- so the answer to readers is the answer to what they are taken for
-pub answers_as : {F G : Type 0} (h : F → G) (tells : G → Option (List ℕ)) (fails fills : G → Bool) (readers : List F) (options : Options) (inv : Configuration) (text : List ℕ) (status : ℕ)
-    → AnswersFeeds (sources (λ f. tells (h f)) (λ f. fails (h f)) (λ f. fills (h f)) options.run readers) options inv text status → AnswersFeeds (sources tells fails fills options.run (map h readers)) options inv text status
-answers_as h tells fails fills readers options inv text status = subst (λ (ss : List Source). AnswersFeeds ss options inv text status) (sources_as h tells fails fills options.run readers)
+pub answers_as : {F G : Type 0} (h : F → G) (remaining : G → Option (List ℕ)) (fails fills : G → Bool) (readers : List F) (options : Options) (inv : Configuration) (text : List ℕ) (status : ℕ)
+    → AnswersFeeds (sources (λ f. remaining (h f)) (λ f. fails (h f)) (λ f. fills (h f)) options.run readers) options inv text status → AnswersFeeds (sources remaining fails fills options.run (map h readers)) options inv text status
+answers_as h remaining fails fills readers options inv text status = subst (λ (ss : List Source). AnswersFeeds ss options inv text status) (sources_as h remaining fails fills options.run readers)
 
 -- ---- the answer to a bundle
 
@@ -273,15 +273,15 @@ answered_bundle options input feeds inv text status most is ran =
 
 -- ---- the answer to feeds in files
 
-pub answered_files : {F G : Type 0} (file : F → G) (tells : G → Option (List ℕ)) (readers : List F) (options : Options) (feeds : ℕ) (inv : Configuration) (text : List ℕ) (status : ℕ)
-    → IsInFile tells inv → length (map file readers) ≡ feeds → IsSenderCount feeds
-    → AnswersFeeds (sources (λ r. tells (file r)) (λ _. true) (λ _. false) options.run readers) options inv text status → AnswersFiles tells options feeds text status
-answered_files file tells readers options feeds inv text status is many count ran =
+pub answered_files : {F G : Type 0} (file : F → G) (remaining : G → Option (List ℕ)) (readers : List F) (options : Options) (feeds : ℕ) (inv : Configuration) (text : List ℕ) (status : ℕ)
+    → IsInFile remaining inv → length (map file readers) ≡ feeds → IsSenderCount feeds
+    → AnswersFeeds (sources (λ r. remaining (file r)) (λ _. true) (λ _. false) options.run readers) options inv text status → AnswersFiles remaining options feeds text status
+answered_files file remaining readers options feeds inv text status is many count ran =
     record {
       configuration = inv;
       inventory_is = is;
       files = map file readers;
       one_each = many;
       count = count;
-      ran = answers_as file tells (λ _. true) (λ _. false) readers options inv text status ran;
+      ran = answers_as file remaining (λ _. true) (λ _. false) readers options inv text status ran;
     }

@@ -12,12 +12,13 @@ use Rattle.cmd_run.specs.declared.fault.RunCause.TheVariants.{Memory}
 use Rattle.cmd_answer.specs.Printed.{refuses_none}
 use Rattle.cmd_dispatch.specs.declared.following.FollowedFeed.{FollowedFeed}
 use Rattle.cmd_dispatch.specs.RunCalls.{Source, RunCall, run_call}
-use Rattle.cmd_dispatch.specs.Runs.{taken_outcome, IsToldBy, IsBegunBy, HasFed, HasPartFed}
+use Rattle.cmd_dispatch.specs.Runs.{taken_outcome, IsReportedBy, IsBegunBy, HasFed, HasPartFed}
 use Rattle.cmd_dispatch.specs.Follows.{HasFollowed, HasStopped, attended_at}
 use Rattle.cmd_options.specs.declared.mode.FollowCall.{FollowCall}
 use Rattle.mon_engine.specs.Held.{Held}
 use Rattle.mon_inventory.specs.Configuration.{Configuration}
-use Rattle.gateway.specs.Followed.{all_feeds, given_feeds, with_clock, clock_after, are_clean, followed_status, run_stop, run_of, HasFollowedCall, HasFailedCall, count_with, lines_due}
+use Rattle.cmd_live.specs.Runs.{count_with}
+use Rattle.gateway.specs.Followed.{all_feeds, given_feeds, with_clock, clock_after, are_clean, followed_status, run_stop, run_of, HasFollowedCall, HasFailedCall, lines_due}
 use Rattle.gateway.proofs.EndLemmas.{due_of_given}
 
 -- one of them
@@ -26,8 +27,8 @@ one_of [] k h = absurd (omega (arith, h))
 one_of (f ∷ readers) k h = f
 
 -- what was refused of a feed may be said in other words
-told_so : (source : Source) (k : ℕ) (journal : List Entry) (report : SenderReport) (P Q : List (ℕ × LineFault) → Type 0) → ((refused : List (ℕ × LineFault)) → P refused → Q refused) → IsToldBy source k journal report P → IsToldBy source k journal report Q
-told_so source k journal report P Q says t = record {
+reported_so : (source : Source) (k : ℕ) (journal : List Entry) (report : SenderReport) (P Q : List (ℕ × LineFault) → Type 0) → ((refused : List (ℕ × LineFault)) → P refused → Q refused) → IsReportedBy source k journal report P → IsReportedBy source k journal report Q
+reported_so source k journal report P Q says t = record {
   text = t.text;
   delivered = t.delivered;
   ended = t.ended;
@@ -58,11 +59,11 @@ module _ (sources : List Source) (reports : List SenderReport) (P Q : ℕ → Li
     alone = f.alone;
     known = f.known;
     one_each = f.one_each;
-    told_are = λ k s r h. told_so _ k _ _ (P k) (Q k) (λ refused p. says k refused (omega (arith, h, f.one_each)) p) (f.told_are k s r h);
+    reported_are = λ k s r h. reported_so _ k _ _ (P k) (Q k) (λ refused p. says k refused (omega (arith, h, f.one_each)) p) (f.reported_are k s r h);
   }
 
-  part_fed_so : (cause : RunCause) (handed : List Entry) (settled : Settlement) → HasPartFed sources cause handed reports P settled → HasPartFed sources cause handed reports Q settled
-  part_fed_so cause handed settled f = record {
+  part_fed_so : (cause : RunCause) (logged : List Entry) (settled : Settlement) → HasPartFed sources cause logged reports P settled → HasPartFed sources cause logged reports Q settled
+  part_fed_so cause logged settled f = record {
     few = f.few;
     known = f.known;
     ended = f.ended;
@@ -73,23 +74,23 @@ module _ (sources : List Source) (reports : List SenderReport) (P Q : ℕ → Li
 stopped_so : (call : RunCall) (clock : Option ℕ) (before now : Option (List ℕ)) (cause : RunCause) (reports : List SenderReport) (P Q : ℕ → List (ℕ × LineFault) → Type 0) → ((k : ℕ) (refused : List (ℕ × LineFault)) → k < length reports → P k refused → Q k refused)
     → HasStopped call clock before now cause reports P → HasStopped call clock before now cause reports Q
 stopped_so call clock before now cause reports P Q says (inl part) =
-    inl (record { handed = part.handed; settled = part.settled; fed = part_fed_so call.sources reports P Q says cause part.handed part.settled part.fed; told = part.told; full = part.full })
+    inl (record { logged = part.logged; settled = part.settled; fed = part_fed_so call.sources reports P Q says cause part.logged part.settled part.fed; told = part.told; full = part.full })
 stopped_so call clock before now cause reports P Q says (inr (inl none)) = inr (inl none)
 stopped_so call clock before now cause reports P Q says (inr (inr all)) = inr (inr (all.0, all.1, fed_so call.sources reports P Q says all.0 all.2, all.3, all.4))
 
 -- readers of which nothing is known are what a call asks for, where there are so many
 as_asked : {F : Type 0} (call : FollowCall) (inv : Configuration) (readers : List F) → length readers ≡ all_feeds call → run_call (λ (_ : F). None) (λ _. true) (λ _. false) call.run readers inv ≡ run_of call inv
 as_asked call inv readers each =
-    let unknown : Source = record { tells = None; fails = true; fills = false; piece = call.run.piece; reads = call.run.reads } in
+    let unknown : Source = record { remaining = None; fails = true; fills = false; piece = call.run.piece; reads = call.run.reads } in
     λ i. record { sources = sym (splat_is_map readers (all_feeds call) unknown each) i; limit = call.run.limit; inventory = inv }
 
 -- as many reports as feeds
 report_count : {A : Type 0} (feeds : List (FollowedFeed A)) → length (map (λ (f : FollowedFeed A). f.report) feeds) ≡ length feeds
 report_count {A = A} feeds = length-map feeds (λ (f : FollowedFeed A). f.report)
 
-module _ {A : Type 0} (clean : A → Bool) (has_told : A → List (ℕ × LineFault) → Type 0) (says : (a : A) (refused : List (ℕ × LineFault)) → has_told a refused → clean a ≡ refuses_none refused) where
+module _ {A : Type 0} (clean : A → Bool) (has_taken : A → List (ℕ × LineFault) → Type 0) (says : (a : A) (refused : List (ℕ × LineFault)) → has_taken a refused → clean a ≡ refuses_none refused) where
   -- whether any line of a feed was refused is what its attendant knows
-  clean_at : (feeds : List (FollowedFeed A)) (k : ℕ) (refused : List (ℕ × LineFault)) → k < length (map (λ (f : FollowedFeed A). f.report) feeds) → attended_at has_told feeds k refused → are_clean (map (λ (f : FollowedFeed A). clean f.attendant) feeds) k refused
+  clean_at : (feeds : List (FollowedFeed A)) (k : ℕ) (refused : List (ℕ × LineFault)) → k < length (map (λ (f : FollowedFeed A). f.report) feeds) → attended_at has_taken feeds k refused → are_clean (map (λ (f : FollowedFeed A). clean f.attendant) feeds) k refused
   clean_at feeds k refused h told = λ c.
       (let within : k < length feeds = omega (arith, h, report_count feeds) in
       let feed = one_of feeds k within in
@@ -98,21 +99,21 @@ module _ {A : Type 0} (clean : A → Bool) (has_told : A → List (ℕ × LineFa
   -- a run that came to its end
   pub call_followed : {F : Type 0} (call : FollowCall) (inv : Configuration) (clock : Option ℕ) (before told : Option (List ℕ)) (readers : List F) (monitor : Held) (feeds : List (FollowedFeed A)) (settled : Settlement) (lines : List ℕ) (status : ℕ)
       → length readers ≡ all_feeds call → clock ≡ clock_after call.following.clock (given_feeds call)
-      → HasFollowed (run_call (λ (_ : F). None) (λ _. true) (λ _. false) call.run readers inv) clock before told (taken_outcome monitor (map (λ (f : FollowedFeed A). f.report) feeds) settled) (attended_at has_told feeds)
+      → HasFollowed (run_call (λ (_ : F). None) (λ _. true) (λ _. false) call.run readers inv) clock before told (taken_outcome monitor (map (λ (f : FollowedFeed A). f.report) feeds) settled) (attended_at has_taken feeds)
       → (listed : List (FollowedFeed A)) → listed ≡ feeds → lines ≡ lines_due call.following.drain clock (map (λ (f : FollowedFeed A). f.report) listed)
       → status ≡ followed_status (map (λ (f : FollowedFeed A). f.report) listed) (map (λ (f : FollowedFeed A). clean f.attendant) listed)
       → HasFollowedCall call inv before told lines status
   call_followed call inv clock before told readers monitor feeds settled lines status each is f listed same_feeds lines_are status_is =
       let reports = map (λ (f : FollowedFeed A). f.report) feeds in
       let same = as_asked call inv readers each in
-      let was = subst (λ (y : RunCall × Option ℕ). HasFollowed y.0 y.1 before told (taken_outcome monitor reports settled) (attended_at has_told feeds)) (λ i. (same i, is i)) f in
+      let was = subst (λ (y : RunCall × Option ℕ). HasFollowed y.0 y.1 before told (taken_outcome monitor reports settled) (attended_at has_taken feeds)) (λ i. (same i, is i)) f in
       record {
         monitor = monitor;
         reports = reports;
         clean = map (λ (f : FollowedFeed A). clean f.attendant) feeds;
         clean_each = length-map feeds (λ (f : FollowedFeed A). clean f.attendant) ∙ sym (report_count feeds) ∙ was.fed.one_each ∙ length-replicate (all_feeds call) _;
         settled = settled;
-        followed = record { fed = fed_so (run_of call inv).sources reports (attended_at has_told feeds) _ (clean_at feeds) settled was.fed; told = was.told; stands = was.stands; within = was.within };
+        followed = record { fed = fed_so (run_of call inv).sources reports (attended_at has_taken feeds) _ (clean_at feeds) settled was.fed; told = was.told; stands = was.stands; within = was.within };
         lines_are = lines_are ∙ ap (λ (fs : List (FollowedFeed A)). lines_due call.following.drain clock (map (λ (f : FollowedFeed A). f.report) fs)) same_feeds ∙ due_of_given call clock reports is (was.fed.one_each ∙ length-replicate (all_feeds call) _);
         status_is = status_is ∙ ap (λ (fs : List (FollowedFeed A)). followed_status (map (λ (f : FollowedFeed A). f.report) fs) (map (λ (f : FollowedFeed A). clean f.attendant) fs)) same_feeds;
       }
@@ -120,7 +121,7 @@ module _ {A : Type 0} (clean : A → Bool) (has_told : A → List (ℕ × LineFa
   -- one that failed
   pub call_failed : {F : Type 0} (call : FollowCall) (inv : Configuration) (clock : Option ℕ) (before now : Option (List ℕ)) (readers : List F) (cause : RunCause) (feeds : List (FollowedFeed A))
       → length readers ≡ all_feeds call → clock ≡ clock_after call.following.clock (given_feeds call)
-      → HasStopped (run_call (λ (_ : F). None) (λ _. true) (λ _. false) call.run readers inv) clock before now cause (map (λ (f : FollowedFeed A). f.report) feeds) (attended_at has_told feeds)
+      → HasStopped (run_call (λ (_ : F). None) (λ _. true) (λ _. false) call.run readers inv) clock before now cause (map (λ (f : FollowedFeed A). f.report) feeds) (attended_at has_taken feeds)
       → HasFailedCall call inv before now (run_stop cause)
   call_failed {F = F} call inv clock before now readers cause feeds each is f =
       let reports = map (λ (f : FollowedFeed A). f.report) feeds in
@@ -129,12 +130,12 @@ module _ {A : Type 0} (clean : A → Bool) (has_told : A → List (ℕ × LineFa
         cause = cause;
         reports = reports;
         clean = map (λ (f : FollowedFeed A). clean f.attendant) feeds;
-        stopped = stopped_so (run_of call inv) (clock_after call.following.clock (given_feeds call)) before now cause reports (attended_at has_told feeds) _ (clean_at feeds)
-            (subst (λ (y : RunCall × Option ℕ). HasStopped y.0 y.1 before now cause reports (attended_at has_told feeds)) (λ i. (same i, is i)) f);
+        stopped = stopped_so (run_of call inv) (clock_after call.following.clock (given_feeds call)) before now cause reports (attended_at has_taken feeds) _ (clean_at feeds)
+            (subst (λ (y : RunCall × Option ℕ). HasStopped y.0 y.1 before now cause reports (attended_at has_taken feeds)) (λ i. (same i, is i)) f);
         stop_is = refl;
       }
 
--- one that was not started, for want of memory
+-- one that was not started, out of memory
 pub call_unstarted : (call : FollowCall) (inv : Configuration) (known : Option (List ℕ)) → HasFailedCall call inv known known (run_stop Memory)
 call_unstarted call inv known = record {
   cause = Memory;
@@ -153,9 +154,9 @@ count_is (suc seconds) given n clock is same = ap (λ (c : Option ℕ). count_wi
 
 -- ---- streams
 
--- where nothing was told nothing was appended
-pub nothing_told : {S : Type 0} (contents : S → Option (List ℕ)) (first now : S) → first ≡ now → Appends (contents first) (contents now) []
-nothing_told contents first now is = subst (λ s. Appends (contents first) (contents s) []) is (appends_none (contents first))
+-- where nothing was printed nothing was appended
+pub none_taken : {S : Type 0} (contents : S → Option (List ℕ)) (first now : S) → first ≡ now → Appends (contents first) (contents now) []
+none_taken contents first now is = subst (λ s. Appends (contents first) (contents s) []) is (appends_none (contents first))
   where
     appends_none : (known : Option (List ℕ)) → Appends known known []
     appends_none None = tt

@@ -12,31 +12,17 @@ use Rattle.cmd_answer.specs.declared.stop.FilesStop.TheVariants.{Open, OpenPassi
 use Rattle.cmd_answer.specs.declared.stop.Stop.{Stop}
 use Rattle.cmd_answer.specs.declared.stop.Stop.TheVariants as stop
 use Rattle.cmd_answer.specs.Files.{IsInFile}
-use Rattle.cmd_answer.specs.Stops.{StopsInventory, StopsOpening, files_stop_line, files_stop_status, stop_line, stop_status}
+use Rattle.cmd_answer.specs.Stops.{StopsOpening, files_stop_line, files_stop_status, stop_line, stop_status}
 use Rattle.cmd_answer.specs.Written.{AppendsPart}
 use Rattle.cmd_dispatch.specs.Tellings.{AppendsBeginning}
-use Rattle.gateway.specs.Followed.{given_feeds, all_feeds, start_line, IsRun, IsRunCutOff}
+use Rattle.cmd_live.specs.Runs.{start_line}
+use Rattle.gateway.specs.Followed.{given_feeds, all_feeds, IsRun, IsRunCutOff}
 use Rattle.gateway.specs.Modes.{streams, StopsFollow, ServesFollow}
 use Rattle.gateway.proofs.ServeLemmas.{keeps_same}
 
-module _ {F : Type 0} (tells : F → Option (List ℕ)) (call : FollowCall) where
-  -- there is no inventory
-  pub stops_inventory : (s : FilesStop) → IsSenderCount (given_feeds call) → IsSenderCount (all_feeds call) → StopsInventory tells call.inventory.now s → StopsFollow tells call s
-  stops_inventory (Open path) given all stops = (given, all, inl stops)
-  stops_inventory (OpenPassing path) given all stops = (given, all, inl stops)
-  stops_inventory (Other stop.Usage) given all stops = absurd stops
-  stops_inventory (Other stop.Input) given all stops = absurd stops
-  stops_inventory (Other stop.Feeds) given all stops = absurd stops
-  stops_inventory (Other stop.FeedTwice) given all stops = absurd stops
-  stops_inventory (Other (stop.Inventory line cause)) given all stops = (given, all, inl stops)
-  stops_inventory (Other (stop.Journal line cause)) given all stops = absurd stops
-  stops_inventory (Other (stop.Fault cause sender)) given all stops = absurd stops
-  stops_inventory (Other stop.Memory) given all stops = (given, all, inl stops)
-  stops_inventory (Other stop.Output) given all stops = absurd stops
-  stops_inventory (Other (stop.State why)) given all stops = absurd stops
-
+module _ {F : Type 0} (remaining : F → Option (List ℕ)) (call : FollowCall) where
   -- not all feeds are there
-  pub stops_opening : (inv : Configuration) (s : FilesStop) → IsSenderCount (given_feeds call) → IsSenderCount (all_feeds call) → IsInFile tells inv → StopsOpening (map (λ p. p.now) call.feeds.items) s → StopsFollow tells call s
+  pub stops_opening : (inv : Configuration) (s : FilesStop) → IsSenderCount (given_feeds call) → IsSenderCount (all_feeds call) → IsInFile remaining inv → StopsOpening (map (λ p. p.now) call.feeds.items) s → StopsFollow remaining call s
   stops_opening inv (Open path) given all read stops = (given, all, inr (inv, read, stops))
   stops_opening inv (OpenPassing path) given all read stops = (given, all, inr (inv, read, stops))
   stops_opening inv (Other stop.Usage) given all read stops = absurd stops
@@ -50,28 +36,28 @@ module _ {F : Type 0} (tells : F → Option (List ℕ)) (call : FollowCall) wher
   stops_opening inv (Other stop.Output) given all read stops = absurd stops
   stops_opening inv (Other (stop.State why)) given all read stops = absurd stops
 
-  no_output : StopsFollow tells call (Other stop.Output) → ⊥
+  no_output : StopsFollow remaining call (Other stop.Output) → ⊥
   no_output why = ⊎_elim (λ no. no) (λ no. no.2) why.2
 
   -- nothing was followed
   pub not_followed : (s : FilesStop) (e : Ended) (known errors told : Option (List ℕ))
-      → StopsFollow tells call s → e.status ≡ files_stop_status s → (e.told ≡ true → Appends errors told (files_stop_line s)) → (e.told ≡ false → AppendsPart errors told (files_stop_line s))
-      → ServesFollow tells call e (streams known known errors told)
+      → StopsFollow remaining call s → e.status ≡ files_stop_status s → (e.printed ≡ true → Appends errors told (files_stop_line s)) → (e.printed ≡ false → AppendsPart errors told (files_stop_line s))
+      → ServesFollow remaining call e (streams known known errors told)
   not_followed s e known errors told why status line part =
-      inl (s, why, record { status_is = status; nothing = λ _. keeps_same known; cut_off = λ is. absurd (no_output (subst (StopsFollow tells call) is why)); line = line; part = part })
+      inl (s, why, record { status_is = status; nothing = λ _. keeps_same known; cut_off = λ is. absurd (no_output (subst (StopsFollow remaining call) is why)); line = line; part = part })
 
   -- all that is due was put out
   pub was_followed : (inv : Configuration) (e : Ended) (output put errors told : Option (List ℕ))
-      → IsInFile tells inv → AppendsBeginning errors told (start_line (given_feeds call) 0 0) → IsRun call inv output put e.status → e.told ≡ true
-      → ServesFollow tells call e (streams output put errors told)
+      → IsInFile remaining inv → AppendsBeginning errors told (start_line (given_feeds call) 0 0) → IsRun call inv output put e.status → e.printed ≡ true
+      → ServesFollow remaining call e (streams output put errors told)
   was_followed inv e output put errors told read start ran owes =
       inr (record { inv = inv; inventory_is = read; started = told; start = start; ran = inl (ran, owes, keeps_same told) })
 
   -- or not
   pub was_cut_off : (inv : Configuration) (s : Stop) (e : Ended) (output put errors started told : Option (List ℕ))
-      → IsInFile tells inv → AppendsBeginning errors started (start_line (given_feeds call) 0 0) → IsRunCutOff call inv output put s
-      → e.status ≡ stop_status s → (e.told ≡ true → Appends started told (stop_line s)) → (e.told ≡ false → AppendsPart started told (stop_line s))
-      → ServesFollow tells call e (streams output put errors told)
+      → IsInFile remaining inv → AppendsBeginning errors started (start_line (given_feeds call) 0 0) → IsRunCutOff call inv output put s
+      → e.status ≡ stop_status s → (e.printed ≡ true → Appends started told (stop_line s)) → (e.printed ≡ false → AppendsPart started told (stop_line s))
+      → ServesFollow remaining call e (streams output put errors told)
   was_cut_off inv s e output put errors started told read start cut status line part =
       inr (record { inv = inv; inventory_is = read; started = started; start = start; ran = inr (s, cut, status, line, part) })
 
@@ -94,6 +80,6 @@ pub of_taken : {X E : Type 0} (r : Result X E) (P : Type 0) → is_err r ≡ fal
 of_taken (Ok x) P is p = p
 of_taken (Err e) P is p = absurd (let no : true ≡ false = is in cc)
 
--- as many where what is told of each is the same
+-- as many where what is printed of each is the same
 pub as_many : {X Y Z : Type 0} (f : X → Z) (h : Y → Z) (xs : List X) (ys : List Y) → map f xs ≡ map h ys → length xs ≡ length ys
 as_many f h xs ys is = sym (length-map xs f) ∙ ap length is ∙ length-map ys h

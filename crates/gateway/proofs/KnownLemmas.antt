@@ -5,9 +5,9 @@ use Rattle.std.proofs.lemmas.List.{at_drop_more, at_drop_all, length-set}
 use Rattle.std.proofs.lemmas.Option.{slice_get_cases}
 use Rattle.mon_engine.specs.Telling.{is_clock}
 use Rattle.mon_state.specs.declared.feeds.KeptFeed.{KeptFeed}
-use Rattle.gateway.specs.declared.start.Start.{Start}
-use Rattle.gateway.specs.declared.start.Start.TheVariants.{Behind, Anew}
-use Rattle.gateway.specs.Reading.{known_from, begun_anew_at, begun_anew, renewed}
+use Rattle.cmd_live.specs.declared.start.Start.{Start}
+use Rattle.cmd_live.specs.declared.start.Start.TheVariants.{Behind, Anew}
+use Rattle.gateway.specs.KnownFeeds.{known_from, begun_anew_at, begun_anew, renewed}
 
 module _ (clock : Option ℕ) (list : List KeptFeed) (k : ℕ) (f : KeptFeed) (all front : List (ℕ × List ℕ)) (low : k < length list) (own : get_or list k f ≡ f) where
   -- the feeds from this number on

@@ -8,14 +8,14 @@ use Rattle.cmd_answer.specs.declared.stop.Stop.{Stop}
 use Rattle.cmd_answer.specs.declared.stop.Stop.TheVariants.{Output}
 use Rattle.cmd_answer.specs.Replayed.{ReportsJournal}
 use Rattle.cmd_answer.specs.Written.{AppendsPart}
-use Rattle.gateway.specs.Modes.{Streams, streams, HasStopped, HasStoppedBy, IsServed}
+use Rattle.gateway.specs.Modes.{Streams, streams, HasStoppedBy, IsServed}
 use Rattle.cmd_answer.specs.Stops.{files_stop_line, files_stop_status}
 
--- a stop that put nothing out but a beginning of what was due, and was told, ends a mode over an input that tells its bytes
+-- a stop whose line was printed, and before which at most a beginning of what was due was put out, ends a mode over an input whose bytes are known
 pub stops_over : (input : Option (List ℕ)) (Answered : List ℕ → List ℕ → ℕ → Type 0) (Stops : List ℕ → FilesStop → Type 0) (stop : Stop) (e : Ended) (s : Streams)
-    → IfSome input (λ told. Stops told (Other stop)) → e.status ≡ files_stop_status (Other stop) → ((stop ≡ Output → ⊥) → Keeps s.output s.put)
-    → (stop ≡ Output → IfSome input (λ told. (text : List ℕ) × ((status : ℕ) × Answered told text status) × AppendsPart s.output s.put text))
-    → (e.told ≡ true → Appends s.errors s.told (files_stop_line (Other stop))) → (e.told ≡ false → AppendsPart s.errors s.told (files_stop_line (Other stop)))
+    → IfSome input (λ told. Stops told (Other stop)) → e.status ≡ files_stop_status (Other stop) → ((stop ≡ Output → ⊥) → Keeps s.output s.output_now)
+    → (stop ≡ Output → IfSome input (λ told. (text : List ℕ) × ((status : ℕ) × Answered told text status) × AppendsPart s.output s.output_now text))
+    → (e.printed ≡ true → Appends s.errors s.errors_now (files_stop_line (Other stop))) → (e.printed ≡ false → AppendsPart s.errors s.errors_now (files_stop_line (Other stop)))
     → IfSome input (λ told. IsServed (Answered told) (Stops told) e s)
 stops_over None Answered Stops stop e s why status nothing cut line part = tt
 stops_over (Some told) Answered Stops stop e s why status nothing cut line part =
@@ -31,16 +31,10 @@ keeps_same (Some text) = refl
 
 -- a stop before the output was touched, with this text on the error stream
 pub stops_said : (said : List ℕ) (Due : List ℕ → Type 0) (stop : FilesStop) (e : Ended) (known errors told : Option (List ℕ))
-    → (stop ≡ Other Output → ⊥) → e.status ≡ files_stop_status stop → (e.told ≡ true → Appends errors told said) → (e.told ≡ false → AppendsPart errors told said)
+    → (stop ≡ Other Output → ⊥) → e.status ≡ files_stop_status stop → (e.printed ≡ true → Appends errors told said) → (e.printed ≡ false → AppendsPart errors told said)
     → HasStoppedBy said Due stop e (streams known known errors told)
 stops_said said Due stop e known errors told other status line part =
     record { status_is = status; nothing = λ _. keeps_same known; cut_off = λ is. absurd (other is); line = line; part = part }
-
-pub stops_before : (stop : Stop) (e : Ended) (known errors told : Option (List ℕ))
-    → (stop ≡ Output → ⊥) → e.status ≡ files_stop_status (Other stop) → (e.told ≡ true → Appends errors told (files_stop_line (Other stop))) → (e.told ≡ false → AppendsPart errors told (files_stop_line (Other stop)))
-    → HasStopped (λ text. ⊥) (Other stop) e (streams known known errors told)
-stops_before stop e known errors told other status line part =
-    stops_said (files_stop_line (Other stop)) (λ text. ⊥) (Other stop) e known errors told (λ is. other (let e : Other stop ≡ Other Output = is in cc)) status line part
 
 -- a replay that was due has status 0
 pub replay_due : (input : Option (List ℕ)) (limit : ℕ) (output put : Option (List ℕ)) → IfSome input (λ told. (text : List ℕ) × ReportsJournal limit told text × AppendsPart output put text)

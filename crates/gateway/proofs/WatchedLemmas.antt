@@ -11,8 +11,8 @@ use Rattle.cmd_journal.specs.Journals.{of_sender}
 use Rattle.cmd_run.specs.Senders.{AreOf}
 use Rattle.cmd_dispatch.specs.Dispatches.{Means}
 use Rattle.cmd_dispatch.specs.RunCalls.{RunCall}
-use Rattle.cmd_dispatch.specs.Runs.{outcome, AreTold, HaveClosedWith, HasRun}
-use Rattle.cmd_dispatch.specs.Told.{BeginsWith}
+use Rattle.cmd_dispatch.specs.Runs.{outcome, AreReported, HaveClosedWith, HasRun}
+use Rattle.cmd_dispatch.specs.Delivered.{BeginsWith}
 use Rattle.cmd_dispatch.specs.Watching.{IsBehind}
 use Rattle.gateway.specs.declared.watching.Watched.{Watched}
 use Rattle.cmd_answer.specs.Printed.{figures_of}
@@ -51,7 +51,7 @@ published_of false inv (Err e) None h = (e.journal.entries, behind_itself e.caus
 -- what is said of a run clause by clause is that it has run
 pub has_run : (call : RunCall) (readers : ℕ) (run : Result RunReport RunFault) → length call.sources ≡ readers
     → IfOk run (λ r. entries r.settled.list ≡ r.journal.entries) → IfOk run (λ r. r.settled.senders ≡ readers) → IfOk run (λ r. HaveClosedWith readers r.journal.entries r.senders.items r.settled)
-    → IfOk run (λ r. length r.journal.entries ≤ call.limit) → IfOk run (λ r. readers ≡ 1 → of_sender 0 r.journal.entries ≡ r.journal.entries) → IfOk run (λ r. AreTold call.sources r.journal.entries r.senders.items)
+    → IfOk run (λ r. length r.journal.entries ≤ call.limit) → IfOk run (λ r. readers ≡ 1 → of_sender 0 r.journal.entries ≡ r.journal.entries) → IfOk run (λ r. AreReported call.sources r.journal.entries r.senders.items)
     → IfOk run (λ r. AreOf readers r.journal.entries) → IfOk run (λ r. Means call.inventory r.journal.entries r.monitor) → IfOk run (λ r. length r.senders.items ≡ readers) → IfOk run (λ r. HasRun call (outcome r))
 has_run call readers (Ok r) many settled settled_of closed within alone told known means one_each = record {
   settled_is = settled;
@@ -61,7 +61,7 @@ has_run call readers (Ok r) many settled settled_of closed within alone told kno
   alone = λ one. alone (sym many ∙ one);
   known = subst (λ (n : ℕ). AreOf n r.journal.entries) (sym many) known;
   one_each = one_each ∙ sym many;
-  told_are = told;
+  reported_are = told;
   means = means;
 }
 has_run call readers (Err e) many settled settled_of closed within alone told known means one_each = tt

@@ -16,7 +16,7 @@ use Rattle.cmd_run.specs.Causes.{cause_number, cause_sender}
 use Rattle.cmd_run.specs.Senders.{AreOf}
 use Rattle.cmd_options.specs.Options.{MayRun}
 use Rattle.cmd_dispatch.specs.RunCalls.{Source, sources}
-use Rattle.cmd_dispatch.specs.Runs.{AreTold, HasFailed}
+use Rattle.cmd_dispatch.specs.Runs.{AreReported, HasFailed}
 use Rattle.cmd_dispatch.specs.Watching.{IsBehind}
 use Rattle.cmd_options.specs.declared.mode.Options.{Options}
 use Rattle.cmd_options.specs.declared.mode.TheConstants.{MOST_READS}
@@ -24,7 +24,7 @@ use Rattle.cmd_answer.specs.Bundles.{IsBundle}
 use Rattle.cmd_answer.specs.Files.{IsInFile}
 use Rattle.cmd_answer.specs.Printed.{run_text, fault_line, sender_status, IsPrinted, figures_of}
 
--- ---- feeds that were run, each of what its reader tells
+-- ---- feeds that were run, each of what its reader delivers
 
 -- The journal restricted to each feed is exactly the commands of the text that its reader delivered, in order and each
 -- once; the text is the report of what the journal means, and what the feeds reported
@@ -32,7 +32,7 @@ pub record HasReport (fed : List Source) (options : Options) (inv : Configuratio
   pub entries : List Entry
   pub reports : List SenderReport
   pub one_each : length reports ≡ length fed
-  pub told_are : AreTold fed entries reports
+  pub reported_are : AreReported fed entries reports
   pub known : AreOf (length fed) entries
   pub alone : length fed ≡ 1 → of_sender 0 entries ≡ entries
   pub within : length entries ≤ options.run.limit
@@ -73,15 +73,15 @@ pub record Answers (options : Options) (input text : List ℕ) (status : ℕ) : 
 -- ---- feeds in files
 
 module _ {F : Type 0} where
-  -- The text and the status for an inventory in a file, all of which is read, and for feeds in files: `tells` says what
-  -- bytes each file tells, and each read may fail
-  pub record AnswersFiles (tells : F → Option (List ℕ)) (options : Options) (feeds : ℕ) (text : List ℕ) (status : ℕ) : Type 0 where
+  -- The text and the status for an inventory in a file, all of which is read, and for feeds in files: `remaining` says what
+  -- bytes each file has, and each read may fail
+  pub record AnswersFiles (remaining : F → Option (List ℕ)) (options : Options) (feeds : ℕ) (text : List ℕ) (status : ℕ) : Type 0 where
     pub configuration : Configuration
-    pub inventory_is : IsInFile tells configuration
+    pub inventory_is : IsInFile remaining configuration
     pub files : List F
     pub one_each : length files ≡ feeds
     pub count : IsSenderCount feeds
-    pub ran : AnswersFeeds (sources tells (λ _. true) (λ _. false) options.run files) options configuration text status
+    pub ran : AnswersFeeds (sources remaining (λ _. true) (λ _. false) options.run files) options configuration text status
 
 -- ---- of private contracts alone
 

@@ -17,8 +17,6 @@ use Rattle.cmd_dispatch.specs.Runs.{taken_outcome}
 use Rattle.cmd_dispatch.specs.Follows.{HasFollowed, HasStopped}
 use Rattle.cmd_answer.specs.declared.stop.Stop.{Stop}
 use Rattle.cmd_answer.specs.declared.stop.Stop.TheVariants as stop
-use Rattle.cmd_answer.specs.declared.follow_line.FollowLine.TheVariants.{Following}
-use Rattle.cmd_answer.specs.FollowLines.{follow_line}
 use Rattle.cmd_answer.specs.Printed.{feed_line, is_whole, refuses_none}
 use Rattle.cmd_answer.specs.Written.{AppendsPart}
 
@@ -42,10 +40,6 @@ abbrev pub all_feeds : FollowCall → ℕ
 all_feeds call = with_clock call.following.clock (given_feeds call)
 
 -- ---- lines
-
--- gateway: following FEEDS feeds, ENTRIES entries, clock CLOCK
-abbrev pub start_line : (feeds entries clock : ℕ) → List ℕ
-start_line feeds entries clock = follow_line (Following feeds entries clock)
 
 -- the lines on feeds that have ended, of which the first is feed k
 unfoldable pub ending_lines : (k : ℕ) → List SenderReport → List ℕ
@@ -75,7 +69,7 @@ are_clean clean k refused = (c : Bool) → slice_index_or clean k c ≡ refuses_
 -- what a call that follows feeds asks of a run: of each feed nothing is known, and its reads may fail
 abbrev pub run_of : FollowCall → Configuration → RunCall
 run_of call inv = record {
-  sources = replicate (all_feeds call) (record { tells = None; fails = true; fills = false; piece = call.run.piece; reads = call.run.reads });
+  sources = replicate (all_feeds call) (record { remaining = None; fails = true; fills = false; piece = call.run.piece; reads = call.run.reads });
   limit = call.run.limit;
   inventory = inv;
 }
@@ -101,7 +95,7 @@ pub record HasFailedCall (call : FollowCall) (inv : Configuration) (before now :
   pub stopped : HasStopped (run_of call inv) (clock_after call.following.clock (given_feeds call)) before now cause reports (are_clean clean)
   pub stop_is : s ≡ run_stop cause
 
--- A run came to its end, and then the output did not take all of the lines on the feeds, or memory was wanting for
+-- A run came to its end, and then the output did not take all of the lines on the feeds, or memory ran out for
 -- these lines
 pub record HasUnended (call : FollowCall) (inv : Configuration) (before now : Option (List ℕ)) (s : Stop) : Type 0 where
   pub told : Option (List ℕ)
@@ -118,11 +112,6 @@ abbrev pub IsRunCutOff : FollowCall → Configuration → (before now : Option (
 IsRunCutOff call inv before now s = HasFailedCall call inv before now s ⊎ HasUnended call inv before now s
 
 -- ---- of private contracts alone
-
--- how many feeds there are with the clock feed of this number, if there is one
-abbrev pub count_with : (clock : Option ℕ) → (given : ℕ) → ℕ
-count_with None given = given
-count_with (Some number) given = given + 1
 
 -- the line on feed k, unless that is the clock feed
 abbrev pub end_line : (clock : Option ℕ) → (k : ℕ) → SenderReport → List ℕ

@@ -3,8 +3,5 @@ pub mod Watched
 pub mod Answers
 pub mod Followed
 pub mod Modes
-pub mod Directory
-pub mod Reading
+pub mod KnownFeeds
 pub mod Renewals
-pub mod PipeTexts
-pub mod ToldLines

@@ -10,7 +10,7 @@ use Rattle.cmd_dispatch.specs.declared.report.RunReport.{RunReport}
 use Rattle.cmd_dispatch.specs.Watching.{IsBehind}
 use Rattle.gateway.specs.declared.watching.Watched.{Watched}
 
--- the list that a run has published: its journal; after a fault its journal too, or for want of memory shorter by one
+-- the list that a run has published: its journal; after a fault its journal too, or, where memory ran out, shorter by one
 -- entry at most
 abbrev pub IsPublished : Result RunReport RunFault → List Entry → Type 0
 IsPublished run published = MatchResult run (λ r. published ≡ r.journal.entries) (λ f. IsBehind f.cause f.journal.entries published)

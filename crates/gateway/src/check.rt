@@ -34,7 +34,10 @@ pub fn serve_check<R: Files, O: Write, E: Write>(
 {
     match counted(rt, alloc, path) {
         Ok(text) => match put((text, 0), output) {
-            Ok(status) => Ended { status, told: true },
+            Ok(status) => Ended {
+                status,
+                printed: true,
+            },
             Err(stop) => stopped(FilesStop::Other(stop), errors),
         },
         Err(stop) => match stopped_in_words(alloc, stop, errors) {

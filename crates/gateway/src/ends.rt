@@ -5,16 +5,12 @@ ghost use Rattle.std.specs.List.{list_all};
 ghost use Rattle.cmd_answer.specs.Printed.{is_whole};
 ghost use Rattle.gateway.specs.Followed.{end_line, followed_status, lines_due, run_stop};
 
-use crate::live::{Attending, ErrorStreams};
-use crate::run::Run;
 use cmd_answer::{Stop, put_feed_end};
 use cmd_dispatch::{Ending, FollowedFeed, RunCause, SenderReport};
 use cmd_ledger::is_clock;
+use cmd_live::{Attending, FeedSystem, Run};
 use cmd_types::Memory;
 use std::marker::Send;
-use std::rt::Files;
-use std::sync::Wait;
-use std::time::Clock;
 
 /// The stop of the program where the run failed by this cause: `Stop::Output` or `Stop::Memory` for the cause of that
 /// name, else `Stop::Fault` with the number and the sender of the cause.
@@ -32,9 +28,7 @@ pub(crate) fn stop_of(cause: RunCause) -> Stop
 }
 
 /// Whether the feed was read to its end and no line of it was refused.
-fn is_clean<R: Files + Clock + ErrorStreams + Wait + Sync>(
-    feed: &FollowedFeed<Attending<'_, R>>,
-) -> bool
+fn is_clean<R: FeedSystem + Sync>(feed: &FollowedFeed<Attending<'_, R>>) -> bool
 where
     R::File: Send,
     R::Dir: Send,
@@ -45,9 +39,7 @@ where
 }
 
 /// Whether every feed was read to its end and no line of it was refused.
-fn are_clean<R: Files + Clock + ErrorStreams + Wait + Sync>(
-    feeds: &[FollowedFeed<Attending<'_, R>>],
-) -> bool
+fn are_clean<R: FeedSystem + Sync>(feeds: &[FollowedFeed<Attending<'_, R>>]) -> bool
 where
     R::File: Send,
     R::Dir: Send,
@@ -58,9 +50,7 @@ where
 }
 
 /// The exit status: 0 where all feeds were read to their end and no line was refused, else 1.
-fn status_of<R: Files + Clock + ErrorStreams + Wait + Sync>(
-    feeds: &[FollowedFeed<Attending<'_, R>>],
-) -> u8
+fn status_of<R: FeedSystem + Sync>(feeds: &[FollowedFeed<Attending<'_, R>>]) -> u8
 where
     R::File: Send,
     R::Dir: Send,
@@ -89,7 +79,7 @@ fn put_end(
 
 /// The lines `feed` for the feeds that the call names where feeds are drained, else an empty text. Fails if memory runs
 /// out.
-fn lines_of<R: Files + Clock + ErrorStreams + Wait + Sync>(
+fn lines_of<R: FeedSystem + Sync>(
     run: &Run<'_, R>,
     feeds: &[FollowedFeed<Attending<'_, R>>],
 ) -> Result<Vec<u8>, Memory>
@@ -112,7 +102,7 @@ where
 /// The text and the exit status at the end of a run. The text is the lines `feed` for the feeds that the call names
 /// where feeds are drained, else empty. The status is 0 where all feeds were read to their end and no line was refused,
 /// else 1. Fails if memory runs out. Prints nothing.
-pub(crate) fn due<R: Files + Clock + ErrorStreams + Wait + Sync>(
+pub(crate) fn due<R: FeedSystem + Sync>(
     run: &Run<'_, R>,
     feeds: &[FollowedFeed<Attending<'_, R>>],
 ) -> Result<(Vec<u8>, u8), Memory>

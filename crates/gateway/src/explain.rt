@@ -20,7 +20,10 @@ pub fn explain_words<I: Read, O: Write, E: Write>(
     ensures { ServesExplain (map (λ w. w.now) words.now) (I.remaining input.old) result (streams (O.contents output.old) (O.contents output.new) (E.contents errors.old) (E.contents errors.new)) }
 {
     match serve_explain(alloc, words, input, output) {
-        Ok(status) => Ended { status, told: true },
+        Ok(status) => Ended {
+            status,
+            printed: true,
+        },
         Err(stop) => stopped(FilesStop::Other(stop), errors),
     }
 }

@@ -50,7 +50,7 @@ pub fn answer_feeds<F: Feed, R: Threads + Wait + Sync>(
     readers: Vec<F>,
     options: Options,
 ) -> Result<(Vec<u8>, u8), Memory>
-    ensures { IfOk result (λ x. AnswersFeeds (sources F.tells F.fails F.fills options.run readers.items) options inventory x.0.items x.1) }
+    ensures { IfOk result (λ x. AnswersFeeds (sources F.remaining F.fails F.fills options.run readers.items) options inventory x.0.items x.1) }
 {
     if !options.asked.figures && !options.asked.journal {
         return answer_unkept(rt, alloc, inventory, readers, options);

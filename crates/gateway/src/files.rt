@@ -7,14 +7,12 @@ ghost use Rattle.cmd_answer.specs.Stops.{StopsFiles};
 use crate::feeds::answer_feeds;
 use cmd_answer::{FilesStop, Stop, open_files};
 use cmd_dispatch::Outside;
+use cmd_live::System;
 use cmd_options::FilesCall;
 use cmd_types::Memory;
 use std::alloc::Global;
 use std::io::Read;
 use std::marker::Send;
-use std::rt::Files;
-use std::sync::Wait;
-use std::thread::Threads;
 
 /// Makes a reader over each file, in order. Fails if memory runs out.
 fn readers_of<F: Read + Send + Drop>(
@@ -34,7 +32,7 @@ fn readers_of<F: Read + Send + Drop>(
 /// 3 with a fault line instead of the report. Checks the number of feeds before it opens a file, and opens all feeds
 /// before the run starts (profile). Fails as [`open_files`] does, or if memory runs out outside the run. Prints
 /// nothing.
-pub fn answer_files<'a, R: Files + Threads + Wait + Sync>(
+pub fn answer_files<'a, R: System + Sync>(
     rt: &R,
     alloc: Global,
     call: &FilesCall<'a>,

@@ -8,20 +8,18 @@ ghost use Rattle.gateway.specs.Followed.{given_feeds, all_feeds, clock_after, Is
 ghost use Rattle.gateway.specs.Modes.{ServesFollow, StopsFollow, streams};
 
 use crate::ends::{due, stop_of};
-use crate::live::{ErrorStreams, OpenFeeds, TellingOutput};
-use crate::numbered::number_feeds;
-use crate::run::{Call, Run, tell_start};
 use cmd_answer::{Ended, FilesStop, Stop, has_twice, inventory_in, put, stopped};
 use cmd_dispatch::{Audience, follow};
+use cmd_live::{
+    Call, FeedSystem, Locks, OpenFeeds, Run, System, TellingOutput, number_feeds, print_start,
+};
 use cmd_options::FollowCall;
 use cmd_types::{Memory, is_sender_count};
 use mon_inventory::Inventory;
 use std::io::{Read, Write};
 use std::marker::Send;
 use std::rt::Files;
-use std::sync::Wait;
 use std::thread::Threads;
-use std::time::Clock;
 
 /// The number of feeds in the call, including the clock feed where there is one.
 fn all_feeds(asked: &FollowCall<'_>) -> usize
@@ -78,12 +76,7 @@ fn read_inventory<'a, R: Files>(call: &Call<'a, R>) -> Result<Inventory, FilesSt
 
 /// Follows the open feeds of a run, and appends to the output the lines that their commands print and, with `drain`,
 /// the lines `feed`. Returns the exit status and the output. After an error the output has a prefix of that text.
-fn follow_all<
-    'a,
-    R: Files + Clock + ErrorStreams + Threads + Wait + Sync,
-    I: Read + Send + Drop,
-    O: Write + Drop,
->(
+fn follow_all<'a, R: FeedSystem + Locks + Threads + Sync, I: Read + Send + Drop, O: Write + Drop>(
     run: &'a Run<'a, R>,
     inventory: Inventory,
     opened: OpenFeeds<'a, R, I>,
@@ -111,12 +104,7 @@ where
         clock: run.clock,
     };
     let (followed, teller) = follow(rt, alloc, inventory, fed, audience);
-    let TellingOutput {
-        rt: _,
-        signal: _,
-        output,
-    } = teller;
-    let mut output = output;
+    let TellingOutput { mut output, .. } = teller;
     match followed {
         Ok(followed) => match due(run, &followed.feeds) {
             Ok(due) => (put(due, &mut output), output),
@@ -128,13 +116,13 @@ where
 
 /// Opens the feeds of a run, writes to the error stream that the run begins, and follows the feeds. Returns the end of
 /// the call and the output. Where a feed cannot be opened, the error stream has only the line of the stop.
-fn serve_run<
-    'a,
-    R: Files + Clock + ErrorStreams + Threads + Wait + Sync,
-    I: Read + Send,
-    O: Write + Drop,
-    E: Write,
->(run: &'a Run<'a, R>, inventory: Inventory, input: &mut I, output: O, errors: &mut E) -> (Ended, O)
+fn serve_run<'a, R: System + Sync, I: Read + Send, O: Write + Drop, E: Write>(
+    run: &'a Run<'a, R>,
+    inventory: Inventory,
+    input: &mut I,
+    output: O,
+    errors: &mut E,
+) -> (Ended, O)
 where
     R::File: Send,
     R::Dir: Send,
@@ -151,11 +139,17 @@ where
         Err(stop) => return (stopped(stop, errors), output),
     };
     let feeds = run.call.asked.feeds.len();
-    if tell_start(run.call.alloc, feeds, 0, 0, errors).is_err() {
+    if print_start(run.call.alloc, feeds, 0, 0, errors).is_err() {
         return (stopped(FilesStop::Other(Stop::Memory), errors), output);
     }
     match follow_all(run, inventory, opened, output) {
-        (Ok(status), output) => (Ended { status, told: true }, output),
+        (Ok(status), output) => (
+            Ended {
+                status,
+                printed: true,
+            },
+            output,
+        ),
         (Err(stop), output) => (stopped(FilesStop::Other(stop), errors), output),
     }
 }
@@ -163,12 +157,12 @@ where
 /// Follows feeds (profile). Appends to the output the lines that their commands print, as they come, and with `drain`
 /// the lines `feed` at the end. The error stream gets a line on the start, each refused line, and after a stop the line
 /// of the stop. Returns the end of the call, and the output, which the run takes by value.
-pub fn serve_follow<
-    R: Files + Clock + ErrorStreams + Threads + Wait + Sync,
-    I: Read + Send,
-    O: Write + Drop,
-    E: Write,
->(call: &Call<'_, R>, input: &mut I, output: O, errors: &mut E) -> (Ended, O)
+pub fn serve_follow<R: System + Sync, I: Read + Send, O: Write + Drop, E: Write>(
+    call: &Call<'_, R>,
+    input: &mut I,
+    output: O,
+    errors: &mut E,
+) -> (Ended, O)
 where
     R::File: Send,
     R::Dir: Send,

@@ -13,7 +13,7 @@ pub fn serve_text<O: Write, E: Write>(parts: &[&[u8]], output: &mut O, errors: &
     match write_pieces(output, parts) {
         Ok(()) => Ended {
             status: 0,
-            told: true,
+            printed: true,
         },
         Err(_) => stopped(FilesStop::Other(Stop::Output), errors),
     }

@@ -10,19 +10,17 @@ mod showing;
 mod site;
 
 use crate::ends::due;
-use crate::inventories::inventory_line;
-use crate::live::{
-    Attending, CarriedRun, Directory, ErrorStreams, InventoryWatch, Locks, OpenFeeds, Place,
-    give_carried, keep_old_inventory, take_carried,
-};
-use crate::run::{Call, Run, tell_start};
 use crate::state_stops::{keeping_stop, later_stop, run_stop};
 use cmd_answer::{Ended, FilesStop, Stop, put, stopped, write_text};
 use cmd_dispatch::{Followed, Keeper, RunCause, follow_stored};
 use cmd_ledger::Ledger;
+use cmd_live::{
+    Attending, Call, CarriedRun, Directory, FeedSystem, InventoryWatch, Locks, OpenFeeds, Place,
+    Run, System, give_carried, inventory_line, keep_old_inventory, print_start, take_carried,
+};
 use cmd_recovery::{Resumed, proceed};
 use cmd_types::Memory;
-use known::{open_kept, renew, tell_replaced};
+use known::{open_kept, print_replaced, renew};
 use mon_inventory::Inventory;
 use showing::{Watching, write_status};
 use site::{News, Site, find_site, lock_directory, read_inventory};
@@ -33,14 +31,6 @@ use std::sync::Wait;
 use std::sync::atomic::{AtomicBool, Ordering};
 use std::thread::Threads;
 use std::time::Clock;
-
-/// Appends the line of a stop to the error stream, and returns the end of the call: the status of the stop, and whether
-/// the error stream took the line.
-fn tell_stop<E: Write>(stop: FilesStop<'_>, errors: &mut E) -> Ended
-    ensures { ServesKept result (E.contents errors.new) }
-{
-    stopped(stop, errors)
-}
 
 /// How a run ended that did not fail.
 #[derive(Clone, Copy)]
@@ -53,7 +43,7 @@ pub(crate) enum RunEnd {
 
 /// Ends a run whose feeds have all ended: writes the file `status`, and appends to the output the lines on the feeds.
 /// Returns the end. After an error the output has a prefix of these lines.
-fn finish<R: Files + Clock + ErrorStreams + Wait + Sync, O: Write>(
+fn finish<R: FeedSystem + Sync, O: Write>(
     run: &Run<'_, R>,
     directory: &str,
     followed: &Followed<Attending<'_, R>>,
@@ -82,12 +72,7 @@ fn has_left_command<R: Files>(run: &Run<'_, R>, cause: RunCause) -> bool {
 /// Follows the open feeds of a run from `resumed`, and at its end appends the lines on the feeds to the output, unless
 /// the next run is to begin. `inventory_text` is the text of the inventory. Returns the end and the output. After an
 /// error the directory keeps what was stored before.
-fn run_kept<
-    'a,
-    R: Files + Clock + ErrorStreams + Threads + Wait + Sync,
-    I: Read + Send + Drop,
-    O: Write + Drop,
->(
+fn run_kept<'a, R: FeedSystem + Locks + Threads + Sync, I: Read + Send + Drop, O: Write + Drop>(
     run: &'a Run<'a, R>,
     inventory_text: &'a [u8],
     resumed: Resumed,
@@ -134,7 +119,7 @@ where
 
 /// Writes to the error stream what is new as a run begins from `ledger`. Fails if memory runs out. A failed write is no
 /// error.
-fn tell_news<R, E: Write>(
+fn print_news<R, E: Write>(
     call: &Call<'_, R>,
     news: News,
     ledger: &Ledger,
@@ -146,7 +131,7 @@ fn tell_news<R, E: Write>(
     match news {
         News::Following => {
             let entries = ledger.monitor.entries_ever();
-            tell_start(
+            print_start(
                 alloc,
                 asked.feeds.len(),
                 entries,
@@ -166,17 +151,11 @@ fn tell_news<R, E: Write>(
 /// Writes the beginning of a run to the directory, and follows its open feeds. Where the inventory is a new one, keeps
 /// the one before first. The error stream gets what is new. Returns the end and the output. Where the directory cannot be
 /// written, no feed is read.
-fn follow_kept<
-    'a,
-    R: Files + Clock + ErrorStreams + Threads + Wait + Sync,
-    I: Read + Send + Drop,
-    O: Write + Drop,
-    E: Write,
->(
+fn follow_kept<'a, R: System + Sync, I: Read + Send + Drop, O: Write + Drop, E: Write>(
     run: &'a Run<'a, R>,
     site: Site<'a>,
     opened: OpenFeeds<'a, R, I>,
-    directory: Directory<'_, R, O>,
+    mut directory: Directory<'_, R, O>,
     errors: &mut E,
 ) -> (Result<RunEnd, Stop>, O)
 where
@@ -194,7 +173,6 @@ where
         feeds,
         news,
     } = site;
-    let mut directory = directory;
     let number = recovered.ledger.monitor.entries_ever();
     let path = directory.path;
     if let Err(failed) = keep_old_inventory(rt, alloc, path, inventory_text, number) {
@@ -204,13 +182,13 @@ where
         Ok(resumed) => resumed,
         Err(_) => return (Err(later_stop(directory.failed)), directory.output),
     };
-    if tell_news(run.call, news, &resumed.ledger, errors).is_err() {
+    if print_news(run.call, news, &resumed.ledger, errors).is_err() {
         return (Err(Stop::Memory), directory.output);
     }
     run_kept(run, inventory_text, resumed, opened, directory)
 }
 
-/// How the runs of a call go on after one of them.
+/// What follows one of the runs of a call.
 pub(crate) enum Onward<F: Drop> {
     /// The program ends.
     Ended(Ended),
@@ -231,20 +209,14 @@ pub(crate) struct RunLeft<F: Drop> {
 fn stop<F: Drop, E: Write>(why: FilesStop<'_>, errors: &mut E) -> Onward<F>
     ensures { GoesOn result (E.contents errors.new) }
 {
-    Onward::Ended(tell_stop(why, errors))
+    Onward::Ended(stopped(why, errors))
 }
 
-/// Opens the feeds of a run and follows them, resuming from the directory. Returns how the call goes on, and the output.
+/// Opens the feeds of a run and follows them, resuming from the directory. Returns what comes next, and the output.
 /// Where a feed is not opened, the directory is unchanged and no feed is read.
-fn serve_site<
-    'a,
-    R: Files + Clock + ErrorStreams + Threads + Wait + Sync,
-    I: Read + Send,
-    O: Write + Drop,
-    E: Write,
->(
+fn serve_site<'a, R: System + Sync, I: Read + Send, O: Write + Drop, E: Write>(
     run: &'a Run<'a, R>,
-    site: Site<'a>,
+    mut site: Site<'a>,
     directory: Directory<'_, R, O>,
     input: &mut I,
     errors: &mut E,
@@ -257,7 +229,6 @@ where
     requires few { length site.feeds.list ≤ MOST_SENDERS }
     ensures { GoesOn result.0 (E.contents errors.new) }
 {
-    let mut site = site;
     let opened = match open_kept(run, &site.feeds, &mut *input) {
         Ok(opened) => opened,
         Err(why) => return (stop(why, errors), directory.output),
@@ -265,7 +236,13 @@ where
     renew(run, &mut site.feeds, &opened.starts, errors);
     match follow_kept(run, site, opened, directory, errors) {
         (Ok(RunEnd::Over(status)), output) => {
-            (Onward::Ended(Ended { status, told: true }), output)
+            (
+                Onward::Ended(Ended {
+                    status,
+                    printed: true,
+                }),
+                output,
+            )
         }
         (Ok(RunEnd::Renewed), output) => (leave_run(run, errors), output),
         (Err(why), output) => (stop(FilesStop::Other(why), errors), output),
@@ -276,7 +253,7 @@ where
 fn leave_run<R: Files + Clock + Wait, E: Write>(run: &Run<'_, R>, errors: &mut E) -> Onward<R::File>
     ensures { GoesOn result (E.contents errors.new) }
 {
-    tell_replaced(run, errors);
+    print_replaced(run, errors);
     let Call { rt, alloc, .. } = *run.call;
     match take_carried(rt, alloc, &run.signal) {
         Ok(carried) => Onward::Renewed(RunLeft {
@@ -301,14 +278,8 @@ struct RunBeginning<'t, F: Drop> {
 }
 
 /// Serves one run of the call: reads the directory, opens the feeds with what the run before left, and follows them.
-/// Returns how the call goes on, and the output.
-fn serve_once<
-    't,
-    R: Files + Clock + ErrorStreams + Threads + Wait + Sync,
-    I: Read + Send,
-    O: Write + Drop,
-    E: Write,
->(
+/// Returns what comes next, and the output.
+fn serve_once<'t, R: System + Sync, I: Read + Send, O: Write + Drop, E: Write>(
     call: &'t Call<'t, R>,
     beginning: RunBeginning<'t, R::File>,
     input: &mut I,
@@ -348,12 +319,13 @@ where
 /// refused line and the cause of a failure to the error stream. Where a file is replaced, or that of the inventory has a
 /// new text without a fault, a new run begins. Holds the directory's lock until it returns. Returns the end of the call,
 /// and the output, which the run owns until then.
-pub fn serve_kept<
-    R: Files + Clock + ErrorStreams + Locks + Threads + Wait + Sync,
-    I: Read + Send,
-    O: Write + Drop,
-    E: Write,
->(call: &Call<'_, R>, path: &str, input: &mut I, output: O, errors: &mut E) -> (Ended, O)
+pub fn serve_kept<R: System + Sync, I: Read + Send, O: Write + Drop, E: Write>(
+    call: &Call<'_, R>,
+    path: &str,
+    input: &mut I,
+    mut output: O,
+    errors: &mut E,
+) -> (Ended, O)
 where
     R::File: Send,
     R::Dir: Send,
@@ -363,13 +335,12 @@ where
     let rt = call.rt;
     let mut inventory_text = match read_inventory(call) {
         Ok(text) => text,
-        Err(stop) => return (tell_stop(stop, errors), output),
+        Err(stop) => return (stopped(stop, errors), output),
     };
     let (_lock, node) = match lock_directory(call, path) {
         Ok(locked) => locked,
-        Err(stop) => return (tell_stop(FilesStop::Other(stop), errors), output),
+        Err(stop) => return (stopped(FilesStop::Other(stop), errors), output),
     };
-    let mut output = output;
     let mut news = News::Following;
     let mut carried = None;
     for _ in rt.forever() {

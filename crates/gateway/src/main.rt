@@ -3,30 +3,18 @@
 #![tactic(auto)]
 
 mod bundle;
-mod care;
 mod check;
-mod clocks;
 mod ends;
 mod explain;
 mod feeds;
 mod files;
 mod follow;
 mod help;
-mod inventories;
 mod keeping;
-mod live;
-mod numbered;
-mod pipe_text;
 mod program;
-mod run;
-mod seen_lines;
-mod segment_names;
-mod start;
 mod state_replay;
 mod state_stops;
-mod tail;
 mod told;
-mod told_lines;
 mod unkept;
 mod watching;
 
@@ -56,7 +44,7 @@ fn words_of<'a>(alloc: Global, given: &'a [String]) -> Result<Vec<&'a str>, Memo
 /// exit status of the stop.
 fn without_memory<E: Write>(errors: &mut E) -> ExitCode {
     // Where the error stream cannot be written either, the exit status alone says why.
-    let _ = Stop::Memory.tell(errors);
+    let _ = Stop::Memory.print(errors);
     ExitCode::from(Stop::Memory.status())
 }
 

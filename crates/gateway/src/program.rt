@@ -21,11 +21,10 @@ use crate::files::answer_files;
 use crate::follow::serve_follow;
 use crate::help::serve_text;
 use crate::keeping::serve_kept;
-use crate::live::{ErrorStreams, Locks};
-use crate::run::Call;
 use crate::state_replay::serve_state_replay;
 use crate::told::serve_told;
 use cmd_answer::{Ended, FilesStop, Stop, misused, put, read_all, serve_replay, stopped};
+use cmd_live::{Call, System};
 use cmd_options::{FilesCall, FollowCall, MOST_READS, Mode, Options};
 use cmd_words::{
     ModeName, VERSION_TEXT, WordsFault, checked_of, files_of, follow_of, mode_named, mode_of,
@@ -37,7 +36,6 @@ use std::marker::Send;
 use std::rt::Files;
 use std::sync::Wait;
 use std::thread::Threads;
-use std::time::Clock;
 
 /// Ends a call whose words name no call of this mode: appends the line of a wrong use and the usage of the mode, or of
 /// all modes, to the error stream; or the line of the stop for out of memory.
@@ -60,10 +58,10 @@ fn serve_bundle<R: Threads + Wait + Sync, I: Read, O: Write>(
     output: &mut O,
 ) -> Result<u8, Stop>
     requires { options.run.reads ≡ MOST_READS }
-    ensures answers { IfOk result (λ status. IfSome (I.remaining input.old) (λ told. (text : List ℕ) × Answers options told text status × Appends (O.contents output.old) (O.contents output.new) text)) }
-    ensures stops { IfErr result (λ stop. IfSome (I.remaining input.old) (λ told. OverStreams (StopsBundle told) (Other stop))) }
+    ensures answers { IfOk result (λ status. IfSome (I.remaining input.old) (λ bytes. (text : List ℕ) × Answers options bytes text status × Appends (O.contents output.old) (O.contents output.new) text)) }
+    ensures stops { IfErr result (λ stop. IfSome (I.remaining input.old) (λ bytes. OverStreams (StopsBundle bytes) (Other stop))) }
     ensures nothing { IfErr result (λ stop. (stop ≡ Output → ⊥) → Keeps (O.contents output.old) (O.contents output.new)) }
-    ensures part { IfErr result (λ stop. stop ≡ Output → IfSome (I.remaining input.old) (λ told. (text : List ℕ) × ((status : ℕ) × Answers options told text status) × AppendsPart (O.contents output.old) (O.contents output.new) text)) }
+    ensures part { IfErr result (λ stop. stop ≡ Output → IfSome (I.remaining input.old) (λ bytes. (text : List ℕ) × ((status : ℕ) × Answers options bytes text status) × AppendsPart (O.contents output.old) (O.contents output.new) text)) }
 {
     let bytes = read_all(alloc, input, MOST_READS)?;
     let answered = answer(rt, alloc, options, &bytes)?;
@@ -71,7 +69,7 @@ fn serve_bundle<R: Threads + Wait + Sync, I: Read, O: Write>(
 }
 
 /// Runs `mode` and appends its text to `output`, or one line on the stop to `errors`. Only a failed `output` may get a
-/// beginning of the text. The status is as for `serve_words`; `told` says whether `errors` took its line.
+/// beginning of the text. The status is as for `serve_words`; `printed` says whether `errors` took its line.
 fn serve_streams<R: AllocGlobal + Threads + Wait + Sync, I: Read, O: Write, E: Write>(
     rt: &R,
     mode: Mode,
@@ -85,11 +83,17 @@ fn serve_streams<R: AllocGlobal + Threads + Wait + Sync, I: Read, O: Write, E: W
     let alloc = rt.alloc();
     match mode {
         Mode::Bundle(options) => match serve_bundle(rt, alloc, options, input, output) {
-            Ok(status) => Ended { status, told: true },
+            Ok(status) => Ended {
+                status,
+                printed: true,
+            },
             Err(stop) => stopped(FilesStop::Other(stop), errors),
         },
         Mode::Replay { limit } => match serve_replay(alloc, limit, input, output) {
-            Ok(status) => Ended { status, told: true },
+            Ok(status) => Ended {
+                status,
+                printed: true,
+            },
             Err(stop) => stopped(FilesStop::Other(stop), errors),
         },
     }
@@ -97,7 +101,7 @@ fn serve_streams<R: AllocGlobal + Threads + Wait + Sync, I: Read, O: Write, E: W
 
 /// Runs feeds in files, and appends the text for the run to `output`, or one line on the stop to `errors`. Only a
 /// failed `output` may get a beginning of the text.
-fn serve_files<R: Files + Threads + Wait + Sync, O: Write, E: Write>(
+fn serve_files<R: System + Sync, O: Write, E: Write>(
     rt: &R,
     alloc: Global,
     call: &FilesCall<'_>,
@@ -110,7 +114,10 @@ where
 {
     match answer_files(rt, alloc, call) {
         Ok(answered) => match put(answered, output) {
-            Ok(status) => Ended { status, told: true },
+            Ok(status) => Ended {
+                status,
+                printed: true,
+            },
             Err(stop) => stopped(FilesStop::Other(stop), errors),
         },
         Err(stop) => stopped(stop, errors),
@@ -119,12 +126,13 @@ where
 
 /// Follows feeds, and keeps each command in the state directory where the call names one. Returns the end of the call,
 /// and the output with the printed lines appended.
-fn serve_call<
-    R: AllocGlobal + Files + Clock + ErrorStreams + Locks + Threads + Wait + Sync,
-    I: Read + Send,
-    O: Write + Drop,
-    E: Write,
->(rt: &R, asked: &FollowCall<'_>, input: &mut I, output: O, errors: &mut E) -> (Ended, O)
+fn serve_call<R: AllocGlobal + System + Sync, I: Read + Send, O: Write + Drop, E: Write>(
+    rt: &R,
+    asked: &FollowCall<'_>,
+    input: &mut I,
+    output: O,
+    errors: &mut E,
+) -> (Ended, O)
 where
     R::File: Send,
     R::Dir: Send,
@@ -144,7 +152,7 @@ where
 
 /// Runs a bundle, or replays a journal or a state directory. Appends the text to `output`, or the line of the stop to
 /// `errors`. Returns the end of the call.
-fn serve_input<R: AllocGlobal + Files + Threads + Wait + Sync, I: Read, O: Write, E: Write>(
+fn serve_input<R: AllocGlobal + System + Sync, I: Read, O: Write, E: Write>(
     rt: &R,
     words: &[&str],
     input: &mut I,
@@ -167,12 +175,13 @@ fn serve_input<R: AllocGlobal + Files + Threads + Wait + Sync, I: Read, O: Write
 
 /// Does the mode that the words name, other than to explain lines, over the streams of the caller. Returns the end of
 /// the call, and the output with the text appended; a stop is one line on `errors`.
-fn serve_modes<
-    R: AllocGlobal + Files + Clock + ErrorStreams + Locks + Threads + Wait + Sync,
-    I: Read + Send,
-    O: Write + Drop,
-    E: Write,
->(rt: &R, words: &[&str], input: &mut I, output: O, errors: &mut E) -> (Ended, O)
+fn serve_modes<R: AllocGlobal + System + Sync, I: Read + Send, O: Write + Drop, E: Write>(
+    rt: &R,
+    words: &[&str],
+    input: &mut I,
+    mut output: O,
+    errors: &mut E,
+) -> (Ended, O)
 where
     R::File: Send,
     R::Dir: Send,
@@ -180,7 +189,6 @@ where
     ensures { ServesWords R.File.remaining (mode_named (map (λ w. w.now) words.now)) (I.remaining input.old) result.0 (streams (O.contents output) (O.contents result.1) (E.contents errors.old) (E.contents errors.new)) }
 {
     let alloc = rt.alloc();
-    let mut output = output;
     let mode = mode_named(words);
     match mode {
         Some(ModeName::Files) => match files_of(alloc, words) {
@@ -213,7 +221,7 @@ where
 /// of the call, and the output with the text appended (profile).
 ///
 /// The text of the mode is appended to the output and nothing else; or one line on the stop is appended to the error
-/// stream, or a beginning of that line where `told` in [`Ended`] is false. After a stop the output is unchanged; but
+/// stream, or a beginning of that line where `printed` in [`Ended`] is false. After a stop the output is unchanged; but
 /// where the output failed, or feeds were followed, a beginning of the text may be there. For a replay the text is the
 /// report on the state that the journal leads to. For a bundle and for feeds in files it is the report, the lines on
 /// the feeds and, where they are asked for, the figures and the journal. The journal has of each feed exactly the
@@ -227,12 +235,13 @@ where
 /// 2 where the words, a file or the input are at fault, and 3 where the run failed, memory runs out or the output
 /// failed. A replay has 0. Words that are explained have 1 where a line of them is not known, and an input that is
 /// explained has 0.
-pub fn serve_words<
-    R: AllocGlobal + Files + Clock + ErrorStreams + Locks + Threads + Wait + Sync,
-    I: Read + Send,
-    O: Write + Drop,
-    E: Write,
->(rt: &R, words: &[&str], input: &mut I, output: O, errors: &mut E) -> (Ended, O)
+pub fn serve_words<R: AllocGlobal + System + Sync, I: Read + Send, O: Write + Drop, E: Write>(
+    rt: &R,
+    words: &[&str],
+    input: &mut I,
+    mut output: O,
+    errors: &mut E,
+) -> (Ended, O)
 where
     R::File: Send,
     R::Dir: Send,
@@ -242,7 +251,6 @@ where
     let Some(line) = text_to_explain(words) else {
         return serve_modes(rt, words, input, output, errors);
     };
-    let mut output = output;
     let ended = explain_words(rt.alloc(), line, input, &mut output, errors);
     (ended, output)
 }
@@ -250,11 +258,11 @@ where
 /// The program: as [`serve_words`], over streams that it owns and drops at the end. Returns the status to end with. The
 /// contract says that there are streams as [`serve_words`] leaves them.
 pub fn serve<
-    R: AllocGlobal + Files + Clock + ErrorStreams + Locks + Threads + Wait + Sync,
+    R: AllocGlobal + System + Sync,
     I: Read + Send + Drop,
     O: Write + Drop,
     E: Write + Drop,
->(rt: &R, words: &[&str], input: I, output: O, errors: E) -> u8
+>(rt: &R, words: &[&str], mut input: I, output: O, mut errors: E) -> u8
 where
     R::File: Send,
     R::Dir: Send,
@@ -262,8 +270,6 @@ where
     ensures { (ended : Ended) × (output' : O) × (errors' : E) × (result ≡ ended.status)
         × ServesProgram R.File.remaining (map (λ w. w.now) words.now) (I.remaining input) ended (streams (O.contents output) (O.contents output') (E.contents errors) (E.contents errors')) }
 {
-    let mut input = input;
-    let mut errors = errors;
     let (ended, _output) = serve_words(rt, words, &mut input, output, &mut errors);
     ended.status
 }

@@ -1,33 +1,14 @@
 //! The stops of a run over a state directory: each fault of the crates below is turned into the `Stop` that has the
 //! program's line.
 use crate::ends::stop_of;
-use crate::live::{LockFault, Part};
 use cmd_answer::{InputFault, StateStop, StateWord, Stop};
 use cmd_dispatch::RunCause;
 use cmd_journal::{ReadCause, ReadFault};
+use cmd_live::{LockFault, Part, at_start, passing};
 use cmd_recovery::{AssignFault, StartFault};
 use cmd_store::StoreFailed;
 use mon_inventory::{Cause, InventoryFault};
 use mon_state::{FileFault, StateCause, StateFault};
-
-/// The stop of a run that does not begin, by the word for its reason.
-pub fn at_start(word: StateWord) -> Stop {
-    Stop::State(StateStop::AtStart(word))
-}
-
-/// The stop of a run that does not begin, by the word for its reason, which may pass by itself.
-pub fn passing(word: StateWord) -> Stop {
-    Stop::State(StateStop::Passing(word))
-}
-
-/// The stop where the directory or a file of it could not be read.
-pub fn unread_stop(fault: InputFault) -> Stop {
-    match fault {
-        InputFault::Memory => Stop::Memory,
-        InputFault::Failed => at_start(StateWord::Read),
-        InputFault::Passing => passing(StateWord::Read),
-    }
-}
 
 /// The stop of a run for which the inventory of the directory could not be kept.
 pub fn keeping_stop(failed: StoreFailed) -> Stop {

@@ -11,17 +11,13 @@ mod seen_lines;
 mod starts;
 mod told_lines;
 
-use crate::live::{ErrorStreams, Locks};
 use crate::program::serve;
+use cmd_live::System;
 use cmd_types::cut;
 use std::alloc::{AllocError, AllocGlobal, Global};
 use std::io::Read;
 use std::marker::Send;
 use std::process::Abort;
-use std::rt::Files;
-use std::sync::Wait;
-use std::thread::Threads;
-use std::time::Clock;
 
 /// The profile's worked inventory: a host and its service, with an escalation.
 const WEB: &[u8] = b"contact;ann;d,u,r,s;w,u,c,r,s
@@ -91,10 +87,11 @@ struct Answer {
 }
 
 /// Runs the program over an input, which may be slow or fail.
-fn run_over<
-    R: AllocGlobal + Files + Clock + ErrorStreams + Locks + Threads + Wait + Sync,
-    I: Read + Send + Drop,
->(rt: &R, words: &[&str], input: I) -> Answer
+fn run_over<R: AllocGlobal + System + Sync, I: Read + Send + Drop>(
+    rt: &R,
+    words: &[&str],
+    input: I,
+) -> Answer
 where
     R::File: Send,
     R::Dir: Send,
@@ -110,11 +107,7 @@ where
     }
 }
 
-fn run<R: AllocGlobal + Files + Clock + ErrorStreams + Locks + Threads + Wait + Sync>(
-    rt: &R,
-    words: &[&str],
-    input: &[u8],
-) -> Answer
+fn run<R: AllocGlobal + System + Sync>(rt: &R, words: &[&str], input: &[u8]) -> Answer
 where
     R::File: Send,
     R::Dir: Send,
@@ -146,7 +139,7 @@ fn check_answer(
 }
 
 /// Runs the program, and asserts its exit status, its whole output and its whole error stream.
-fn expect<R: AllocGlobal + Abort + Files + Clock + ErrorStreams + Locks + Threads + Wait + Sync>(
+fn expect<R: AllocGlobal + Abort + System + Sync>(
     rt: &R,
     words: &[&str],
     input: &[u8],
@@ -162,7 +155,7 @@ where
 }
 
 /// The output of the program, which ends with this exit status and an empty error stream.
-fn output_of<R: AllocGlobal + Abort + Files + Clock + ErrorStreams + Locks + Threads + Wait + Sync>(
+fn output_of<R: AllocGlobal + Abort + System + Sync>(
     rt: &R,
     words: &[&str],
     input: &[u8],

@@ -1,19 +1,16 @@
 //! The mode `told`: it prints the told lines of a state directory behind a place, each behind its key.
 ghost use Rattle.gateway.specs.Modes.{ServesTold};
 
-use crate::live::{ErrorStreams, print_told};
 use cmd_answer::{Ended, FilesStop, stopped};
+use cmd_live::{System, print_told};
 use cmd_options::ToldCall;
 use std::alloc::Global;
 use std::io::Write;
-use std::rt::Files;
-use std::sync::Wait;
-use std::time::Clock;
 
 /// Prints the told lines of a state directory behind a place, each behind its key `N.L;`, over all segments that are
-/// there, in order; with `follow` goes on as lines are told, into the next segment too. Appends the line of a stop to the
-/// error stream. Returns the end of the call.
-pub fn serve_told<R: Files + Clock + ErrorStreams + Wait, O: Write, E: Write>(
+/// there, in order; with `follow` continues as lines are printed, into the next segment too. Appends the line of a stop
+/// to the error stream. Returns the end of the call.
+pub fn serve_told<R: System, O: Write, E: Write>(
     rt: &R,
     alloc: Global,
     call: ToldCall<'_>,
@@ -25,7 +22,7 @@ pub fn serve_told<R: Files + Clock + ErrorStreams + Wait, O: Write, E: Write>(
     match print_told(rt, alloc, call, output) {
         Ok(()) => Ended {
             status: 0,
-            told: true,
+            printed: true,
         },
         Err(stop) => stopped(FilesStop::Other(stop), errors),
     }

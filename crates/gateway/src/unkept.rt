@@ -30,7 +30,7 @@ pub fn answer_unkept<F: Feed, R: Threads + Wait + Sync>(
     options: Options,
 ) -> Result<(Vec<u8>, u8), Memory>
     requires { (options.asked.figures ≡ false) × (options.asked.journal ≡ false) }
-    ensures { IfOk result (λ x. AnswersFeeds (sources F.tells F.fails F.fills options.run readers.items) options inventory x.0.items x.1) }
+    ensures { IfOk result (λ x. AnswersFeeds (sources F.remaining F.fails F.fills options.run readers.items) options inventory x.0.items x.1) }
 {
     let none = Journal::new(alloc, 1);
     let nothing = Extras {

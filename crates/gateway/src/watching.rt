@@ -69,10 +69,10 @@ pub fn run_asked<F: Feed, R: Threads + Wait + Sync>(
     readers: Vec<F>,
     options: Options,
 ) -> Result<WatchedRun, Memory>
-    ensures ran { IfOk result (λ x. IfOk x.run (λ r. HasRun (run_call F.tells F.fails F.fills options.run readers.items inventory) (outcome r))) }
+    ensures ran { IfOk result (λ x. IfOk x.run (λ r. HasRun (run_call F.remaining F.fails F.fills options.run readers.items inventory) (outcome r))) }
     ensures may_run { IfOk result (λ x. OnOk x.run (MayRun (length readers.items) options.run)) }
     ensures bad_options { IfOk result (λ x. IfErr x.run (λ e. (e.cause ≡ BadOptions) ↔ (MayRun (length readers.items) options.run → ⊥))) }
-    ensures fault { IfOk result (λ x. IfErr x.run (λ e. HasFailed (run_call F.tells F.fails F.fills options.run readers.items inventory) e.cause e.journal.entries e.senders.items)) }
+    ensures fault { IfOk result (λ x. IfErr x.run (λ e. HasFailed (run_call F.remaining F.fails F.fills options.run readers.items inventory) e.cause e.journal.entries e.senders.items)) }
     ensures watched { IfOk result (λ x. IsWatched options.asked.figures inventory x.run x.watched) }
 {
     if options.asked.figures {

@@ -1,5 +1,5 @@
 -- What stands, what begins and what is over under a new inventory.
-use Rattle.std.proofs.Common.{◌≡◌, ◌≢◌, ℕ, zero, suc, ◌<◌, ◌≤◌, Bool, true, false, cond, ◌&&◌, ◌==◌, List, [], ◌∷◌, length, map, filter, filter_map, Option, Some, None, slice_get, Contains, option_map, inl, inr, refl, ap, sym, ◌∙◌, arith}
+use Rattle.std.proofs.Common.{◌≡◌, ◌≢◌, ℕ, zero, suc, ◌<◌, ◌≤◌, Bool, true, false, cond, ◌&&◌, ◌==◌, List, [], ◌∷◌, length, map, filter, filter_map, leb, if◌then◌else◌, Option, Some, None, is_some, slice_get, Contains, option_map, inl, inr, refl, ap, sym, ◌∙◌, arith}
 use Rattle.std.specs.List.{cons_option}
 use Rattle.std.proofs.lemmas.Bool.{eq-eqb, ne_eqb, eqb-true, lt-leb, le-leb, cases_lt}
 use Rattle.std.proofs.lemmas.List.{length-map}
@@ -19,10 +19,12 @@ use Rattle.mon_inventory.specs.Lookups.{contact_of}
 use Rattle.mon_inventory.specs.Configuration.{Configuration}
 use Rattle.mon_inventory.specs.Facts.{IsInventory}
 use Rattle.mon_engine.specs.declared.object.Object.{Object}
+use Rattle.mon_engine.specs.Objects.{is_of_hard_problem, since_after}
 use Rattle.mon_engine.specs.World.{World}
+use Rattle.mon_engine.specs.Sound.{IsObjectState}
 use Rattle.mon_engine.specs.Saved.{IsSaved}
 use Rattle.mon_carry.specs.Names.{IsSameObject, place_in, moved}
-use Rattle.mon_carry.specs.Carried.{item_at, status_within, known_or_first, object_carried, switch_or_first, contact_carried, comment_at, comment_on, comment_carried, downtime_on, downtime_carried, carried}
+use Rattle.mon_carry.specs.Carried.{item_at, status_within, object_within, known_or_first, object_carried, switch_or_first, contact_carried, comment_at, comment_on, comment_carried, downtime_on, downtime_carried, carried}
 use Rattle.mon_carry.specs.CarryLaws.{ObjectsStand, StatusesStand, CommentsStand, DowntimesStand, DepthsStand, ContactsStand, TheSameInventoryChangesNothing, NewObjectsBegin, NewObjectsHaveNoComments, NewObjectsHaveNoDowntimes, NewContactsBegin, IsOfSameObject, CommentsAreOfObjectsThatStand, DowntimesOfGoneObjectsAreOver, WhatWaitsForThemDoesNotStart, AllElseGoesOn}
 use Rattle.mon_carry.proofs.ListLemmas.{same_places, map_map, count_map, find_map, All-filter_map, filter_map_all, map_all}
 use Rattle.mon_carry.proofs.NameLemmas.{contact_is, contact_none}
@@ -34,22 +36,25 @@ mapped_at : {X Y : Type 0} (f : X → Y) (xs : List X) (k : ℕ) (x : X) → sli
 mapped_at f xs k x e = slice_get-map f xs k ∙ ap (option_map f) e
 
 -- what is carried to an object, where the one of its names is found
-object_from : (old : List ObjectSpec) (os : List Object) (spec : ObjectSpec) (j : ℕ) (o : Object) → place_in old spec ≡ Some j → slice_get os j ≡ Some o → object_carried old os spec ≡ record o { status = status_within spec.max o.status }
+object_from : (clock : ℕ) (old : List ObjectSpec) (os : List Object) (spec : ObjectSpec) (j : ℕ) (o : Object) → place_in old spec ≡ Some j → slice_get os j ≡ Some o → object_carried clock old os spec ≡ object_within clock spec.max o
 unfolding object_carried
-object_from old os spec j o place e = ap (λ p. known_or_first spec (item_at os p)) place ∙ ap (known_or_first spec) e
+object_from clock old os spec j o place e = ap (λ p. known_or_first clock spec (item_at os p)) place ∙ ap (known_or_first clock spec) e
 
 pub objects_stand : ObjectsStand
 unfolding carried
 objects_stand old new w j k o sound same e =
-    mapped_at (object_carried old.objects w.objects) new.objects k same.is_now same.stands
-    ∙ ap Some (object_from old.objects w.objects same.is_now j o (place_back old new.objects j k sound same) e)
+    mapped_at (object_carried w.clock old.objects w.objects) new.objects k same.is_now same.stands
+    ∙ ap Some (object_from w.clock old.objects w.objects same.is_now j o (place_back old new.objects j k sound same) e)
 
 below_max : (max : ℕ) (s : Status) → s.attempt < max → status_within max s ≡ s
 below_max max s below = rw (lt-leb max s.attempt below) refl
 
+below_stays : (clock max : ℕ) (o : Object) → o.status.attempt < max → object_within clock max o ≡ o
+below_stays clock max o below = rw (lt-leb max o.status.attempt below) refl
+
 pub statuses_stand : StatusesStand
 statuses_stand old new w j k o sound same e below =
-    objects_stand old new w j k o sound same e ∙ ap (λ s. Some (record o { status = s })) (below_max same.is_now.max o.status below)
+    objects_stand old new w j k o sound same e ∙ ap Some (below_stays w.clock same.is_now.max o below)
 
 -- ---- comments
 
@@ -162,18 +167,35 @@ same_status max s h = elim (cases_lt s.attempt max) [
     by above true e = (let at : s.attempt ≡ max = (let last = h.last in omega arith) in rw (← at, ← e) refl)
     by above false e = absurd (let below = h.soft e in omega arith)
 
-same_objects : (inv : Configuration) (w : World) → IsInventory inv → IsSaved inv w → map (object_carried inv.objects w.objects) inv.objects ≡ w.objects
-same_objects inv w sound h = same_places _ w.objects (length-map inv.objects (object_carried inv.objects w.objects) ∙ sym h.world.states.as_many) each
+same_since : (clock : ℕ) (s : Status) (since : Option ℕ) → is_some since ≡ is_of_hard_problem s → since_after clock s since s ≡ since
+same_since clock s since h = by (is_of_hard_problem s) since h
   where
-    each : (k : ℕ) (x o : Object) → slice_get (map (object_carried inv.objects w.objects) inv.objects) k ≡ Some x → slice_get w.objects k ≡ Some o → x ≡ o
+    by : (hard : Bool) (m : Option ℕ) → is_some m ≡ hard → (if hard then (if hard then m else Some clock) else None) ≡ m
+    by true m e = refl
+    by false None e = refl
+    by false (Some x) e = absurd cc
+
+same_object : (clock : ℕ) (spec : ObjectSpec) (o : Object) → IsObjectState spec o → object_within clock spec.max o ≡ o
+same_object clock spec o h = elim (cases_lt o.status.attempt spec.max) [
+  | inl below ↦ below_stays clock spec.max o below
+  | inr above ↦
+      ap (λ (s : Status). record o { status = s; moments = record o.moments { since = if leb spec.max o.status.attempt then since_after clock o.status o.moments.since s else o.moments.since } }) (same_status spec.max o.status h.within)
+      ∙ ap (λ (b : Bool). record o { moments = record o.moments { since = if b then since_after clock o.status o.moments.since o.status else o.moments.since } }) (le-leb spec.max o.status.attempt above)
+      ∙ ap (λ (m : Option ℕ). record o { moments = record o.moments { since = m } }) (same_since clock o.status o.moments.since h.since)
+]
+
+same_objects : (inv : Configuration) (w : World) → IsInventory inv → IsSaved inv w → map (object_carried w.clock inv.objects w.objects) inv.objects ≡ w.objects
+same_objects inv w sound h = same_places _ w.objects (length-map inv.objects (object_carried w.clock inv.objects w.objects) ∙ sym h.world.states.as_many) each
+  where
+    each : (k : ℕ) (x o : Object) → slice_get (map (object_carried w.clock inv.objects w.objects) inv.objects) k ≡ Some x → slice_get w.objects k ≡ Some o → x ≡ o
     each k x o a b = by (slice_get inv.objects k) refl
       where
         by : (s : Option ObjectSpec) → slice_get inv.objects k ≡ s → x ≡ o
-        by None e = (let none = sym a ∙ slice_get-map (object_carried inv.objects w.objects) inv.objects k ∙ ap (option_map (object_carried inv.objects w.objects)) e in absurd (cc))
+        by None e = (let none = sym a ∙ slice_get-map (object_carried w.clock inv.objects w.objects) inv.objects k ∙ ap (option_map (object_carried w.clock inv.objects w.objects)) e in absurd (cc))
         by (Some spec) e =
-            let is = same_Some x _ (sym a ∙ mapped_at (object_carried inv.objects w.objects) inv.objects k spec e) in
-            let from = object_from inv.objects w.objects spec k o (place_back inv inv.objects k k sound (itself inv.objects k spec e)) b in
-            is ∙ from ∙ ap (λ s. record o { status = s }) (same_status spec.max o.status (h.world.states.each k spec o e b).within)
+            let is = same_Some x _ (sym a ∙ mapped_at (object_carried w.clock inv.objects w.objects) inv.objects k spec e) in
+            let from = object_from w.clock inv.objects w.objects spec k o (place_back inv inv.objects k k sound (itself inv.objects k spec e)) b in
+            is ∙ from ∙ same_object w.clock spec o (h.world.states.each k spec o e b)
 
 same_contacts : (inv : Configuration) (w : World) → IsInventory inv → IsSaved inv w → map (contact_carried inv.contacts w.contacts) inv.contacts ≡ w.contacts
 same_contacts inv w sound h = same_places _ w.contacts (length-map inv.contacts (contact_carried inv.contacts w.contacts) ∙ sym h.world.contacts) each
@@ -215,8 +237,8 @@ the_same_inventory_changes_nothing inv w sound h =
 pub new_objects_begin : NewObjectsBegin
 unfolding carried object_carried
 new_objects_begin old new w k spec sound is =
-    mapped_at (object_carried old.objects w.objects) new.objects k spec is.stands
-    ∙ ap (λ p. Some (known_or_first spec (item_at w.objects p))) (new_place old new.objects k spec sound is)
+    mapped_at (object_carried w.clock old.objects w.objects) new.objects k spec is.stands
+    ∙ ap (λ p. Some (known_or_first w.clock spec (item_at w.objects p))) (new_place old new.objects k spec sound is)
 
 pub new_objects_have_no_comments : NewObjectsHaveNoComments
 unfolding carried

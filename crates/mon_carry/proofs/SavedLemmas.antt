@@ -1,5 +1,6 @@
 -- A carried world is one that can be written and read back.
-use Rattle.std.proofs.Common.{◌≡◌, ◌≢◌, ℕ, ◌+◌, ◌<◌, ◌≤◌, Bool, true, false, List, [], ◌∷◌, length, map, filter_map, Option, Some, None, is_some, slice_get, All, option_map, refl, ap, sym, ◌∙◌, subst, inl, inr, arith}
+use Rattle.std.proofs.Common.{◌≡◌, ◌≢◌, ℕ, ◌+◌, ◌<◌, ◌≤◌, Bool, true, false, List, [], ◌∷◌, length, map, filter_map, if◌then◌else◌, Option, Some, None, is_some, slice_get, All, option_map, refl, ap, sym, ◌∙◌, subst, inl, inr, arith}
+use Rattle.std.specs.Prelude.{IfSome}
 use Rattle.std.specs.List.{cons_option, AllByRecursion}
 use Rattle.std.proofs.lemmas.Bool.{lt-leb, le-leb, cases_lt}
 use Rattle.std.proofs.lemmas.List.{length-map}
@@ -16,11 +17,11 @@ use Rattle.mon_inventory.specs.declared.records.ObjectSpec.{ObjectSpec}
 use Rattle.mon_inventory.specs.Configuration.{Configuration}
 use Rattle.mon_inventory.specs.Facts.{IsInventory}
 use Rattle.mon_engine.specs.declared.object.Object.{Object}
-use Rattle.mon_engine.specs.Objects.{is_service, initial_object}
+use Rattle.mon_engine.specs.Objects.{is_service, is_of_hard_problem, initial_object}
 use Rattle.mon_engine.specs.Sound.{IsObjectState, AreObjectStates, IsNoticeOf, ever}
 use Rattle.mon_engine.specs.Saved.{IsSaidObject, IsSaidComment, IsSaidDowntime}
 use Rattle.mon_carry.specs.Names.{place_in, moved}
-use Rattle.mon_carry.specs.Carried.{item_at, status_within, known_or_first, object_carried, contact_carried, comment_at, comment_on, comment_carried, downtime_on, downtime_carried, carried}
+use Rattle.mon_carry.specs.Carried.{item_at, status_within, since_within, object_within, known_or_first, object_carried, contact_carried, comment_at, comment_on, comment_carried, downtime_on, downtime_carried, carried}
 use Rattle.mon_carry.specs.CarryLaws.{ACarriedWorldIsSaved}
 use Rattle.mon_carry.proofs.ListLemmas.{All-filter_map}
 use Rattle.mon_carry.proofs.NameLemmas.{place_found}
@@ -48,61 +49,83 @@ record IsGoodObject (n : ℕ) (spec : ObjectSpec) (o : Object) : Type 0 where
 
 first_good : (n : ℕ) (spec : ObjectSpec) → 1 ≤ spec.max → IsGoodObject n spec (initial_object spec)
 first_good n spec least = record {
-  state = record { within = record { first = omega arith; last = least; soft = λ e. absurd (cc) }; kind = refl };
+  state = record { within = record { first = omega arith; last = least; soft = λ e. absurd (cc) }; kind = refl; since = refl };
   number = omega arith;
-  said = record { code = code (is_service spec); last = tt; notified = tt; not_before = tt; output = tt };
+  said = record { code = code (is_service spec); last = tt; notified = tt; not_before = tt; moments = record { checked = tt; changed = omega arith; since = tt }; output = tt };
 }
   where
     code : (service : Bool) → IsCodeOf service 0
     code true = omega arith
     code false = omega arith
 
-known_good : (n : ℕ) (was spec : ObjectSpec) (o : Object) → 1 ≤ spec.max → was.service ≡ spec.service → IsGoodObject n was o → IsGoodObject n spec (record o { status = status_within spec.max o.status })
-known_good n was spec o least same h =
+-- the beginning of a hard problem is known under a new greatest attempt, and in range
+since_good : (clock max : ℕ) (o : Object) → clock ≤ GREATEST_NUMBER → is_some o.moments.since ≡ is_of_hard_problem o.status → IfSome o.moments.since (λ moment. moment ≤ GREATEST_NUMBER)
+    → (is_some (since_within clock max o) ≡ is_of_hard_problem (status_within max o.status)) × IfSome (since_within clock max o) (λ moment. moment ≤ GREATEST_NUMBER)
+since_good clock max o small known few = elim (cases_lt o.status.attempt max) [
+  | inl below ↦ rw (lt-leb max o.status.attempt below) (known, few)
+  | inr above ↦ rw (le-leb max o.status.attempt above) (by (is_of_hard_problem o.status) (is_of_hard_problem (record o.status { hard = true; attempt = max })) o.moments.since known few)
+]
+  where
+    by : (was is : Bool) (m : Option ℕ) → is_some m ≡ was → IfSome m (λ moment. moment ≤ GREATEST_NUMBER)
+        → (is_some (if is then (if was then m else Some clock) else None) ≡ is) × IfSome (if is then (if was then m else Some clock) else None) (λ moment. moment ≤ GREATEST_NUMBER)
+    by was false m e few = (refl, tt)
+    by true true m e few = (e, few)
+    by false true m e few = (refl, small)
+
+known_good : (clock n : ℕ) (was spec : ObjectSpec) (o : Object) → clock ≤ GREATEST_NUMBER → 1 ≤ spec.max → was.service ≡ spec.service → IsGoodObject n was o → IsGoodObject n spec (object_within clock spec.max o)
+known_good clock n was spec o small least same h =
     let kind = same_kind spec.max o.status in
+    let since = since_good clock spec.max o small h.state.since h.said.moments.since in
     record {
-      state = record { within = within_max spec.max o.status least h.state.within.first; kind = kind.0 ∙ h.state.kind ∙ ap (λ s. is_some s) same };
+      state = record { within = within_max spec.max o.status least h.state.within.first; kind = kind.0 ∙ h.state.kind ∙ ap (λ s. is_some s) same; since = since.0 };
       number = h.number;
-      said = record { code = rw (kind.0, kind.1) h.said.code; last = h.said.last; notified = h.said.notified; not_before = h.said.not_before; output = h.said.output };
+      said = record {
+        code = rw (kind.0, kind.1) h.said.code;
+        last = h.said.last;
+        notified = h.said.notified;
+        not_before = h.said.not_before;
+        moments = record { checked = h.said.moments.checked; changed = h.said.moments.changed; since = since.1 };
+        output = h.said.output;
+      };
     }
 
-carried_good : (n : ℕ) (old : Configuration) (os : List Object) (spec : ObjectSpec) → IsInventory old → AreObjectStates n old.objects os → All IsSaidObject os → 1 ≤ spec.max → IsGoodObject n spec (object_carried old.objects os spec)
+carried_good : (clock n : ℕ) (old : Configuration) (os : List Object) (spec : ObjectSpec) → clock ≤ GREATEST_NUMBER → IsInventory old → AreObjectStates n old.objects os → All IsSaidObject os → 1 ≤ spec.max → IsGoodObject n spec (object_carried clock old.objects os spec)
 unfolding object_carried
-carried_good n old os spec sound states said least = by (place_in old.objects spec) refl
+carried_good clock n old os spec small sound states said least = by (place_in old.objects spec) refl
   where
-    by : (p : Option ℕ) → place_in old.objects spec ≡ p → IsGoodObject n spec (known_or_first spec (item_at os p))
+    by : (p : Option ℕ) → place_in old.objects spec ≡ p → IsGoodObject n spec (known_or_first clock spec (item_at os p))
     by None e = first_good n spec least
     by (Some j) e = by_known (slice_get os j) refl
       where
-        by_known : (o : Option Object) → slice_get os j ≡ o → IsGoodObject n spec (known_or_first spec o)
+        by_known : (o : Option Object) → slice_get os j ≡ o → IsGoodObject n spec (known_or_first clock spec o)
         by_known None f = first_good n spec least
         by_known (Some o) f =
             let there = place_found old spec j sound e in
-            known_good n there.item spec o least (sym there.names.service) (record { state = states.each j there.item o there.is f; number = states.numbers j o f; said = subst IsSaidObject (get_or_from_slice_get os j o o f) (All-get_or IsSaidObject os j o (slice_get_within os j o f) said) })
+            known_good clock n there.item spec o small least (sym there.names.service) (record { state = states.each j there.item o there.is f; number = states.numbers j o f; said = subst IsSaidObject (get_or_from_slice_get os j o o f) (All-get_or IsSaidObject os j o (slice_get_within os j o f) said) })
 
 -- ---- the objects
 
-each_good : (n : ℕ) (old new : Configuration) (os : List Object) → IsInventory old → IsInventory new → AreObjectStates n old.objects os → All IsSaidObject os → (k : ℕ) (spec : ObjectSpec) → slice_get new.objects k ≡ Some spec → IsGoodObject n spec (object_carried old.objects os spec)
-each_good n old new os sound-old sound-new states said k spec e = carried_good n old os spec sound-old states said (sound-new.objects k spec e).max_least
+each_good : (clock n : ℕ) (old new : Configuration) (os : List Object) → clock ≤ GREATEST_NUMBER → IsInventory old → IsInventory new → AreObjectStates n old.objects os → All IsSaidObject os → (k : ℕ) (spec : ObjectSpec) → slice_get new.objects k ≡ Some spec → IsGoodObject n spec (object_carried clock old.objects os spec)
+each_good clock n old new os small sound-old sound-new states said k spec e = carried_good clock n old os spec small sound-old states said (sound-new.objects k spec e).max_least
 
-carried_at : (n : ℕ) (old new : Configuration) (os : List Object) → IsInventory old → IsInventory new → AreObjectStates n old.objects os → All IsSaidObject os → (k : ℕ) (o : Object) → slice_get (map (object_carried old.objects os) new.objects) k ≡ Some o
+carried_at : (clock n : ℕ) (old new : Configuration) (os : List Object) → clock ≤ GREATEST_NUMBER → IsInventory old → IsInventory new → AreObjectStates n old.objects os → All IsSaidObject os → (k : ℕ) (o : Object) → slice_get (map (object_carried clock old.objects os) new.objects) k ≡ Some o
     → (spec : ObjectSpec) × (slice_get new.objects k ≡ Some spec) × IsGoodObject n spec o
-carried_at n old new os sound-old sound-new states said k o e = by (slice_get new.objects k) refl
+carried_at clock n old new os small sound-old sound-new states said k o e = by (slice_get new.objects k) refl
   where
-    mapped : slice_get (map (object_carried old.objects os) new.objects) k ≡ option_map (object_carried old.objects os) (slice_get new.objects k)
-    mapped = slice_get-map (object_carried old.objects os) new.objects k
+    mapped : slice_get (map (object_carried clock old.objects os) new.objects) k ≡ option_map (object_carried clock old.objects os) (slice_get new.objects k)
+    mapped = slice_get-map (object_carried clock old.objects os) new.objects k
 
     by : (s : Option ObjectSpec) → slice_get new.objects k ≡ s → (spec : ObjectSpec) × (slice_get new.objects k ≡ Some spec) × IsGoodObject n spec o
-    by None f = (let none = sym e ∙ mapped ∙ ap (option_map (object_carried old.objects os)) f in absurd (cc))
+    by None f = (let none = sym e ∙ mapped ∙ ap (option_map (object_carried clock old.objects os)) f in absurd (cc))
     by (Some spec) f =
-        let is = same_Some o _ (sym e ∙ mapped ∙ ap (option_map (object_carried old.objects os)) f) in
-        (spec, f, subst (IsGoodObject n spec) (sym is) (each_good n old new os sound-old sound-new states said k spec f))
+        let is = same_Some o _ (sym e ∙ mapped ∙ ap (option_map (object_carried clock old.objects os)) f) in
+        (spec, f, subst (IsGoodObject n spec) (sym is) (each_good clock n old new os small sound-old sound-new states said k spec f))
 
-carried_states : (n : ℕ) (old new : Configuration) (os : List Object) → IsInventory old → IsInventory new → AreObjectStates n old.objects os → All IsSaidObject os → AreObjectStates n new.objects (map (object_carried old.objects os) new.objects)
-carried_states n old new os sound-old sound-new states said = record {
-  as_many = length-map new.objects (object_carried old.objects os);
-  each = λ k spec o e f. (let g = carried_at n old new os sound-old sound-new states said k o f in let one = same_Some g.0 spec (sym g.1 ∙ e) in subst (λ (s : ObjectSpec). IsObjectState s o) one g.2.state);
-  numbers = λ k o f. (carried_at n old new os sound-old sound-new states said k o f).2.number;
+carried_states : (clock n : ℕ) (old new : Configuration) (os : List Object) → clock ≤ GREATEST_NUMBER → IsInventory old → IsInventory new → AreObjectStates n old.objects os → All IsSaidObject os → AreObjectStates n new.objects (map (object_carried clock old.objects os) new.objects)
+carried_states clock n old new os small sound-old sound-new states said = record {
+  as_many = length-map new.objects (object_carried clock old.objects os);
+  each = λ k spec o e f. (let g = carried_at clock n old new os small sound-old sound-new states said k o f in let one = same_Some g.0 spec (sym g.1 ∙ e) in subst (λ (s : ObjectSpec). IsObjectState s o) one g.2.state);
+  numbers = λ k o f. (carried_at clock n old new os small sound-old sound-new states said k o f).2.number;
 }
 
 -- ---- comments
@@ -179,7 +202,7 @@ unfolding carried
 a_carried_world_is_saved old new w sound-old sound-new h places = record {
   world = record {
     clock = h.world.clock;
-    states = carried_states (ever w) old new w.objects sound-old sound-new h.world.states h.said.objects;
+    states = carried_states w.clock (ever w) old new w.objects h.world.clock sound-old sound-new h.world.states h.said.objects;
     contacts = length-map new.contacts (contact_carried old.contacts w.contacts);
     comments = h.world.comments;
     noted = All-filter_map (λ c. c.object < length new.objects) (λ c. Unit {0}) (comment_carried old.objects new.objects)
@@ -193,7 +216,7 @@ a_carried_world_is_saved old new w sound-old sound-new h places = record {
   notes = record { ascending = kept_ascend old.objects new.objects 0 w.notes.comments h.notes.ascending; given = kept_given old.objects new.objects w.notes.last_id w.notes.comments h.notes.given };
   records = carried_records old.objects new.objects 0 w.downtimes h.records;
   said = record {
-    objects = λ k d within. (carried_at (ever w) old new w.objects sound-old sound-new h.world.states h.said.objects k _ (slice_get-get_or (map (object_carried old.objects w.objects) new.objects) k d within)).2.said;
+    objects = λ k d within. (carried_at w.clock (ever w) old new w.objects h.world.clock sound-old sound-new h.world.states h.said.objects k _ (slice_get-get_or (map (object_carried w.clock old.objects w.objects) new.objects) k d within)).2.said;
     comments = All-filter_map IsSaidComment IsSaidComment (comment_carried old.objects new.objects)
         (λ c x said e. comment_holds IsSaidComment old.objects new.objects c x (λ m f. record { time = said.time; said = said.said }) e) w.notes.comments h.said.comments;
     downtimes = All-map IsSaidDowntime (downtime_carried old.objects new.objects) w.downtimes (All-weaker IsSaidDowntime (λ d. IsSaidDowntime (downtime_carried old.objects new.objects d)) (carried_said old.objects new.objects) w.downtimes h.said.downtimes);

@@ -12,7 +12,7 @@ use Rattle.mon_inventory.specs.declared.records.ContactSpec.{ContactSpec}
 use Rattle.mon_inventory.specs.Lookups.{contact_of}
 use Rattle.mon_inventory.specs.Configuration.{Configuration}
 use Rattle.mon_engine.specs.declared.object.Object.{Object}
-use Rattle.mon_engine.specs.Objects.{initial_object}
+use Rattle.mon_engine.specs.Objects.{initial_object, since_after}
 use Rattle.mon_engine.specs.World.{World, initial_contact}
 use Rattle.mon_carry.specs.Names.{place_in, moved}
 
@@ -27,15 +27,24 @@ item_at xs (Some k) = slice_get xs k
 abbrev pub status_within : (max : ℕ) → Status → Status
 status_within max s = if nat_le max s.attempt then record s { hard = true; attempt = max } else s
 
--- the state of an object now: the old state, its status within the new greatest attempt; a new object has had no
--- result and no command
-abbrev pub known_or_first : ObjectSpec → Option Object → Object
-known_or_first spec None = initial_object spec
-known_or_first spec (Some o) = record o { status = status_within spec.max o.status }
+-- the beginning of an object's hard problem, under a new greatest attempt: a problem that becomes hard by it begins at
+-- the clock
+abbrev pub since_within : (clock max : ℕ) → Object → Option ℕ
+since_within clock max o = if nat_le max o.status.attempt then since_after clock o.status o.moments.since (status_within max o.status) else o.moments.since
+
+-- the state of an object under a new greatest attempt
+abbrev pub object_within : (clock max : ℕ) → Object → Object
+object_within clock max o = record o { status = status_within max o.status; moments = record o.moments { since = since_within clock max o } }
+
+-- the state of an object now: the old state, within the new greatest attempt; a new object has had no result and no
+-- command
+abbrev pub known_or_first : (clock : ℕ) → ObjectSpec → Option Object → Object
+known_or_first clock spec None = initial_object spec
+known_or_first clock spec (Some o) = object_within clock spec.max o
 
 -- the state of an object of the new inventory, by the old state of the object with its names
-unfoldable pub object_carried : (old : List ObjectSpec) → List Object → ObjectSpec → Object
-object_carried old os spec = known_or_first spec (item_at os (place_in old spec))
+unfoldable pub object_carried : (clock : ℕ) → (old : List ObjectSpec) → List Object → ObjectSpec → Object
+object_carried clock old os spec = known_or_first clock spec (item_at os (place_in old spec))
 
 -- ---- contacts
 
@@ -81,7 +90,7 @@ unfoldable pub carried : (old : Configuration) → World → (new : Configuratio
 carried old w new = record w {
   notes = record { comments = filter_map (comment_carried old.objects new.objects) w.notes.comments; last_id = w.notes.last_id };
   downtimes = map (downtime_carried old.objects new.objects) w.downtimes;
-  objects = map (object_carried old.objects w.objects) new.objects;
+  objects = map (object_carried w.clock old.objects w.objects) new.objects;
   contacts = map (contact_carried old.contacts w.contacts) new.contacts;
 }
 

@@ -15,15 +15,16 @@ use Rattle.mon_engine.specs.Objects.{initial_object}
 use Rattle.mon_engine.specs.World.{World, initial_contact}
 use Rattle.mon_engine.specs.Saved.{IsSaved}
 use Rattle.mon_carry.specs.Names.{IsSameObject, IsNewObject, IsGoneObject}
-use Rattle.mon_carry.specs.Carried.{status_within, comment_at, carried, HasPlaces}
+use Rattle.mon_carry.specs.Carried.{object_within, comment_at, carried, HasPlaces}
 
 -- ---- what is the same remains
 
--- of an object that is the same the output, the acknowledgement, the notification number, the last notice, the delay
--- and the switches are as they were, whatever its index, and the status is within the new greatest attempt
+-- of an object that is the same the output, the acknowledgement, the notification number, the last notice, the delay,
+-- the switches and the moments of its last result and last change are as they were, whatever its index; the status is
+-- within the new greatest attempt, and a problem that becomes hard by it begins at the clock
 abbrev pub ObjectsStand : Type 0
 ObjectsStand = (old new : Configuration) (w : World) (j k : ℕ) (o : Object) → IsInventory old → (same : IsSameObject old.objects new.objects j k) → slice_get w.objects j ≡ Some o →
-    slice_get (carried old w new).objects k ≡ Some (record o { status = status_within same.is_now.max o.status })
+    slice_get (carried old w new).objects k ≡ Some (object_within w.clock same.is_now.max o)
 
 -- where its attempt is below the new greatest one, all of it is as it was
 abbrev pub StatusesStand : Type 0

@@ -60,13 +60,14 @@ fn has_places(downtimes: &[Downtime], new: &Inventory) -> bool
 /// Makes the parts from which a monitor of the new inventory resumes, from the parts of a monitor of the old one
 /// (profile). Objects and contacts are the same where their names are. An object that is the same keeps its state,
 /// comments and downtimes, at its new index; where its attempt reaches the new greatest attempt, its state is hard, at
-/// that attempt. A new object begins as before the first entry. The comments of an object that is gone are removed, and
-/// its downtimes are over. A contact that is the same keeps its switches; those of a new contact are on. The clock, the
-/// program's switches, the ids and the count of entries are unchanged.
+/// that attempt, and a problem that becomes hard so begins at the clock. A new object begins as before the first entry.
+/// The comments of an object that is gone are removed, and its downtimes are over. A contact that is the same keeps its
+/// switches; those of a new contact are on. The clock, the program's switches, the ids and the count of entries are
+/// unchanged.
 ///
-/// Requires that entries of the old inventory can have led to these parts ([`misfit`](mon_engine::Parts::misfit)); then
-/// entries of the new one can have led to the parts that it returns. Where it returns an error, the parts are dropped.
-/// The time is linear in the number of objects, contacts, comments and downtimes.
+/// Requires that these parts fit the old inventory ([`misfit`](mon_engine::Parts::misfit)); then the parts that it returns
+/// fit the new one. Where it returns an error, the parts are dropped. The time is linear in the number of objects,
+/// contacts, comments and downtimes.
 ///
 /// # Errors
 /// [`CarryFault::NoObject`] where the new inventory has no object and a downtime was ever scheduled; this is tested
@@ -119,7 +120,7 @@ pub fn carry(
         comments,
         mut downtimes,
     } = parts;
-    let objects = carry_objects(alloc, old, objects, new)?;
+    let objects = carry_objects(alloc, old, objects, new, clock)?;
     let contacts = carry_contacts(alloc, old, &contacts, new)?;
     let comments = carry_comments(alloc, old, comments, new)?;
     carry_downtimes(old, &mut downtimes, new);

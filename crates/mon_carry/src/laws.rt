@@ -41,9 +41,9 @@ pub fn ids_go_on_and_nothing_is_told()
     ensures { AllElseGoesOn }
 {}
 
-/// A monitor of the new inventory can resume from the parts that are carried to it: entries can have led to them
-/// (profile). The law requires parts that can be saved under the old inventory and, where there is a downtime, an
-/// object in the new one.
+/// A monitor of the new inventory can resume from the parts that are carried to it: they fit that inventory (profile).
+/// The law requires parts that can be saved under the old inventory and, where there is a downtime, an object in the new
+/// one.
 pub fn a_carried_world_is_saved()
     ensures { ACarriedWorldIsSaved }
 {}

@@ -3,7 +3,7 @@ use super::*;
 use cmd_types::{Memory, Text};
 use mon_checks::Status;
 use mon_downtime::{Downtime, Fate, Plan, Times};
-use mon_engine::{Acknowledgement, Monitor, Object, Parts, Program};
+use mon_engine::{Acknowledgement, Moments, Monitor, Object, Parts, Program};
 use mon_inventory::Inventory;
 use mon_notes::{BoxedText, Comment};
 use mon_notify::ContactSwitch;
@@ -40,6 +40,11 @@ fn text(alloc: Global, bytes: &[u8]) -> Result<Text, Memory> {
 fn object(alloc: Global, service: bool) -> Object {
     Object {
         status: Status::first(service),
+        moments: Moments {
+            checked: None,
+            changed: 0,
+            since: None,
+        },
         output: Text::new(Vec::new(alloc)),
         acknowledgement: Acknowledgement::Unacknowledged,
         number: 0,
@@ -65,6 +70,11 @@ fn critical(alloc: Global) -> Result<Object, Memory> {
     http.number = 1;
     http.last = Some(300);
     http.notified = Some(2);
+    http.moments = Moments {
+        checked: Some(310),
+        changed: 290,
+        since: Some(300),
+    };
     Ok(http)
 }
 

@@ -25,9 +25,6 @@ rank_small Starts = omega arith
 by_key : (m n r s : ℕ) (i : Bool) → r ≤ 2 → s ≤ 2 → (nat_lt (4 * m + r) (4 * n + s) || ((4 * m + r == 4 * n + s) && i)) ≡ (nat_lt m n || ((m == n) && (nat_lt r s || ((r == s) && i))))
 by_key m n r s i h k = grind (arith, nat_tests)
 
-pub one_key : (m n r s : ℕ) → r ≤ 2 → s ≤ 2 → (4 * m + r == 4 * n + s) ≡ ((m == n) && (r == s))
-one_key m n r s h k = grind (arith, nat_tests)
-
 -- the order of their numbers, of which the first that differs decides
 pub order_before : (a b : Event) → is_lt (ordering_then (nat_cmp (key_of a) (key_of b)) (nat_cmp a.id b.id)) ≡ before a b
 order_before a b = by_tests (nat_lt (key_of a) (key_of b)) (key_of a == key_of b) (nat_lt a.id b.id) (a.id == b.id) ∙ by_key a.moment b.moment (rank a.kind) (rank b.kind) (nat_lt a.id b.id) (rank_small a.kind) (rank_small b.kind)

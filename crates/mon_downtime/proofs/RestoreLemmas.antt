@@ -1,11 +1,13 @@
 -- Records that were scheduled before: their events, and what is kept of the first of them.
-use Rattle.std.proofs.Common.{◌≡◌, ℕ, ◌+◌, ◌<◌, List, [], ◌∷◌, ◌++◌, length, take, get_or, Option, Some, ap, sym, ◌∙◌, append-nil, append_assoc, arith, zero, suc}
+use Rattle.std.proofs.Common.{◌≡◌, inl, inr, ℕ, ◌+◌, ◌<◌, List, [], ◌∷◌, ◌++◌, length, take, get_or, Option, Some, ap, sym, ◌∙◌, subst, append-nil, append_assoc, arith, zero, suc}
 use Rattle.std.specs.List.{flat_map}
-use Rattle.std.specs.Prelude.{slice_get}
+use Rattle.std.specs.Prelude.{IfSome, slice_get}
+use Rattle.std.proofs.lemmas.Bool.{cases_lt}
+use Rattle.std.proofs.lemmas.Option.{slice_get-get_or}
 use Rattle.std.proofs.Math.Seq.{take-suc}
 use Rattle.mon_downtime.specs.declared.downtime.Downtime.{Downtime}
 use Rattle.mon_downtime.specs.declared.event.Event.{Event}
-use Rattle.mon_downtime.specs.Records.{record_of, AreNumbered, AreRecords}
+use Rattle.mon_downtime.specs.Records.{record_of, AreNumbered, IsRecord, AreRecords}
 use Rattle.mon_downtime.specs.declared.links.Link.{Link}
 use Rattle.mon_downtime.specs.Links.{AreUnmarked}
 use Rattle.mon_downtime.proofs.RecordLemmas.{record_at}
@@ -21,6 +23,17 @@ pub one_more : (ds : List Downtime) (i : ℕ) (d : Downtime) → i < length ds �
 one_more ds i d h is =
     let next : suc i ≡ i + 1 = omega arith in
     ap (λ n. take n ds) (sym next) ∙ take-suc ds i d h ∙ ap (λ (x : Downtime). take i ds ++ x ∷ []) (sym is)
+
+-- ---- each in its place
+
+pub each_more : (P : ℕ → Type 0) (i : ℕ) → P i → ((k : ℕ) → k < i → P k) → (k : ℕ) → k < i + 1 → P k
+each_more P i here all k l = elim (cases_lt k i) [
+  | inl low ↦ all k low
+  | inr high ↦ subst P (let same : i ≡ k = omega (arith, high, l) in same) here
+]
+
+pub read_record : (ds : List Downtime) (i : ℕ) (d : Downtime) → i < length ds → IsRecord i (get_or ds i d) → IfSome (slice_get ds i) (IsRecord i)
+read_record ds i d h w = subst (λ (o : Option Downtime). IfSome o (IsRecord i)) (sym (slice_get-get_or ds i d h)) w
 
 -- ---- no links
 

@@ -12,9 +12,6 @@ unlike a b h = by_test (eqb a b) refl
     by_test true k = absurd (h (eqb-true a b k))
     by_test false k = k
 
-pub end_is_place : (waits : ℕ → Bool) (p : ℕ) → p ≡ 0 → is_place waits p ≡ true
-end_is_place waits p h = let e : eqb p 0 ≡ true = grind (arith, nat_tests) in rw e refl
-
 pub waits_is_place : (waits : ℕ → Bool) (p : ℕ) → waits p ≡ true → is_place waits p ≡ true
 waits_is_place waits p h = rw h (by_test (eqb p 0))
   where

@@ -43,7 +43,7 @@ refusal_by NoDuration = refusals.NoDuration
 refusal_by NoTrigger = refusals.NoTrigger
 refusal_by TriggerOver = refusals.TriggerOver
 
--- a plan is refused for its first fault; one without a fault only for want of memory
+-- a plan is refused for its first fault; one without a fault only where memory runs out
 abbrev pub IsRefusedBy : Option Fault → Refusal → Type 0
 IsRefusedBy None why = why ≡ refusals.Memory
 IsRefusedBy (Some fault) why = why ≡ refusal_by fault

@@ -1,6 +1,6 @@
 //! Restores downtimes that were saved: tests their records, and makes the `RecordIndex` anew. No record is changed
 //! here.
-ghost use Rattle.std.specs.Prelude.{◌≡◌, ◌↔◌, ◌+◌, ◌*◌, ◌<◌, ◌≤◌, ◌^◌, [], length, take, vec_capacity, IfOk, OnOk, IsTrue, MatchOption};
+ghost use Rattle.std.specs.Prelude.{◌≡◌, ◌↔◌, ◌+◌, ◌*◌, ◌<◌, ◌≤◌, ◌^◌, ℕ, [], length, slice_get, take, vec_capacity, IfOk, IfSome, OnOk, IsTrue, MatchOption};
 ghost use Rattle.mon_downtime.specs.Records.{IsRecord, IsSmallFate, AreRecords};
 ghost use Rattle.mon_downtime.specs.Events.{events};
 ghost use Rattle.mon_downtime.specs.Kept.{AreKept, AreRestored};
@@ -50,9 +50,13 @@ fn is_record(before: u64, d: &Downtime) -> bool
 /// assert_eq!(rt; unrecorded(&[]), None);
 /// ```
 pub fn unrecorded(records: &[Downtime]) -> Option<usize>
-    ensures { MatchOption result
+    ensures all { MatchOption result
         (AreRecords 0 records.now)
         (λ _. AreRecords 0 records.now → ⊥) }
+    ensures within { IfSome result (λ place. place < length records.now) }
+    ensures at { IfSome result (λ place. IfSome (slice_get records.now place) (IsRecord place) → ⊥) }
+    // At `None` this is said of each index.
+    ensures earlier { (k : ℕ) → IfSome result (λ place. k < place) → IfSome (slice_get records.now k) (IsRecord k) }
 {
     for place in 0..records.len() {
         if !is_record(place as u64, &records[place]) {

@@ -110,11 +110,11 @@ result_becomes o code = by_recovered (recovers o.status code) refl
     by_recovered false e = by_changed (eqb o.status.code code) refl
 
 -- the object itself after a result, and any other
-taken_becomes : (os : List Object) (x object code : ℕ) (output : List ℕ) (up soft : Bool) (max : ℕ) (o : Object) → slice_get os object ≡ Some o → Becomes object o (acts.CheckResult x code output) (changed_at os x (object_after code output up soft max))
-taken_becomes os x object code output up soft max o here = elim (changed_cases os x object (object_after code output up soft max) o here) [
+taken_becomes : (os : List Object) (x object clock code : ℕ) (output : List ℕ) (up soft : Bool) (max : ℕ) (o : Object) → slice_get os object ≡ Some o → Becomes object o (acts.CheckResult x code output) (changed_at os x (object_after clock code output up soft max))
+taken_becomes os x object clock code output up soft max o here = elim (changed_cases os x object (object_after clock code output up soft max) o here) [
   | inl at ↦ (
     acknowledgement_after o.acknowledgement (change_by o.status code).code_changed (change_by o.status code).recovered,
-    (object_after code output up soft max o, at.1, refl),
+    (object_after clock code output up soft max o, at.1, refl),
     elim (result_becomes o code) [
       | inl same ↦ inl same
       | inr ended ↦ inr (at.0, ended.0, ended.1)
@@ -126,7 +126,7 @@ taken_becomes os x object code output up soft max o here = elim (changed_cases o
 after_taken_becomes : (inv : Configuration) (v : World) (x object code : ℕ) (output : List ℕ) (spec : ObjectSpec) (p o : Object) → slice_get v.objects object ≡ Some o
     → Becomes object o (acts.CheckResult x code output) (after_taken inv v x code output spec p).objects
 after_taken_becomes inv v x object code output spec p o here =
-    let changed = taken_becomes v.objects x object code output (host_is_up v.objects spec) (passive_hosts_soft inv) spec.max o here in
+    let changed = taken_becomes v.objects x object v.clock code output (host_is_up v.objects spec) (passive_hosts_soft inv) spec.max o here in
     let on : World = with_started inv (with_result inv v x spec p code output) x in
     let started : Has on.objects object changed.0 = subst (λ (os : List Object). Has os object changed.0) (sym (ap (λ (y : World). y.objects) (started_leaves inv (with_result inv v x spec p code output) x))) changed.1 in
     (changed.0, noticed_has inv on x object (change_by p.status code) changed.0 started, changed.2)

@@ -34,7 +34,7 @@ acknowledged_world : (inv : Configuration) (w : World) (object sticky : ℕ) (pe
 acknowledged_world inv w object sticky persistent author text h within =
     let next = commented_world inv w object true persistent author text h within in
     with_states inv (ever w + 1) (ever w + 1) (commented w object true persistent author text) _ (omega arith) next
-    (kept_states (ever w + 1) inv.objects w.objects object (with_acknowledgement (acknowledgement_of sticky)) (λ o. refl) (λ o. refl) next.states)
+    (kept_states (ever w + 1) inv.objects w.objects object (with_acknowledgement (acknowledgement_of sticky)) (λ o. refl) (λ o. refl) (λ o. refl) next.states)
 
 pub acknowledge_follows : (inv : Configuration) (w w' : World) (object sticky : ℕ) (notify persistent : Bool) (author text : List ℕ) → IsWorld inv w → object < length inv.objects
     → after_acknowledge inv w object sticky notify persistent author text ≡ Ok w' → Follows inv w w'
@@ -52,7 +52,7 @@ unacknowledge_follows inv w object h =
     (λ o at is. record {
       world = with_states inv (ever w + 1) (ever w + 1) (record w { notes = without_acknowledged object w.notes }) _ (omega arith)
           (fewer_world inv (ever w + 1) w (λ c. not ((eqb c.object object) && c.ack && not c.persistent)) next)
-          (kept_states (ever w + 1) inv.objects w.objects object (with_acknowledgement Unacknowledged) (λ o. refl) (λ o. refl) next.states);
+          (kept_states (ever w + 1) inv.objects w.objects object (with_acknowledgement Unacknowledged) (λ o. refl) (λ o. refl) (λ o. refl) next.states);
       entries = refl;
       before = refl;
     })

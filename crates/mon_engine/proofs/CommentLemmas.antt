@@ -93,7 +93,7 @@ taken_stands inv v x code output spec o c e there = by_removed (result_unacknowl
 
     gone : (a : Acknowledgement) → acknowledgement_after o.acknowledgement (change_by o.status code).code_changed (change_by o.status code).recovered ≡ a → acknowledgement_at (after_taken inv v x code output spec o) x ≡ a
     gone a is =
-        let f : Object → Object = object_after code output (host_is_up v.objects spec) (passive_hosts_soft inv) spec.max in
+        let f : Object → Object = object_after v.clock code output (host_is_up v.objects spec) (passive_hosts_soft inv) spec.max in
         let first : Has (with_result inv v x spec o code output).objects x a = (f o, changed_here v.objects x f o e, is) in
         let started : Has (with_started inv (with_result inv v x spec o code output) x).objects x a = subst (λ (os : List Object). Has os x a) (sym (ap (λ (y : World). y.objects) (started_leaves inv (with_result inv v x spec o code output) x))) first in
         has_is _ x a (noticed_has inv (with_started inv (with_result inv v x spec o code output) x) x x (change_by o.status code) a started)

@@ -31,7 +31,7 @@ custom_follows inv w object options h =
     let sound = sound_as _ (custom_notice_as inv w object number options spec o (slice_get_within inv.objects object spec known)) in
     record {
       world = with_states inv (ever w + 1) (ever w + 1) (told w (Some n)) _ (omega arith) (with_more_notices inv (ever w + 1) w _ next (subst (IfAny (IsNoticeOf inv)) e sound))
-          (changed_states (ever w + 1) (ever w + 1) inv.objects w.objects object (with_setting (settings.Number number)) (omega arith) next.states (λ spec o a s. same_status spec o _ refl s)
+          (changed_states (ever w + 1) (ever w + 1) inv.objects w.objects object (with_setting (settings.Number number)) (omega arith) next.states (λ spec o a s. same_status spec o _ refl refl s)
           (λ x few. number_small (ever w) options o (h.states.numbers object o at)));
       entries = refl;
       before = refl;

@@ -178,7 +178,7 @@ taken_told inv w e object code output spec o after known at h free =
     end = advanced inv (counted b) t
 
     o1 : Object
-    o1 = object_after code output (host_is_up v.objects spec) (passive_hosts_soft inv) spec.max o
+    o1 = object_after v.clock code output (host_is_up v.objects spec) (passive_hosts_soft inv) spec.max o
 
     l : Letter
     l = letter_of (is_service spec) o1.status.code
@@ -203,7 +203,7 @@ taken_told inv w e object code output spec o after known at h free =
     contacts = ap (λ (x : World). x.contacts) leaves ∙ ap (λ (x : World). x.contacts) timed
 
     there : slice_get u.objects object ≡ Some o1
-    there = ap (λ (x : World). slice_get x.objects object) leaves ∙ changed_here v.objects object (object_after code output (host_is_up v.objects spec) (passive_hosts_soft inv) spec.max) o at
+    there = ap (λ (x : World). slice_get x.objects object) leaves ∙ changed_here v.objects object (object_after v.clock code output (host_is_up v.objects spec) (passive_hosts_soft inv) spec.max) o at
 
     ended : end.objects ≡ b.objects
     ended = kept_objects inv (counted b) t

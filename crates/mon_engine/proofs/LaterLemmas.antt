@@ -197,7 +197,7 @@ taken_free first done inv w e object code output spec o after at lasting h quiet
     b = after_taken inv v object code output spec o
 
     o1 : Object
-    o1 = object_after code output (host_is_up v.objects spec) (passive_hosts_soft inv) spec.max o
+    o1 = object_after v.clock code output (host_is_up v.objects spec) (passive_hosts_soft inv) spec.max o
 
     lasting_v : AreLasting v.downtimes
     lasting_v = advanced_lasting inv w t lasting
@@ -206,7 +206,7 @@ taken_free first done inv w e object code output spec o after at lasting h quiet
     none = nothing_is_left done inv w t
 
     here : slice_get with_it.objects object ≡ Some o1
-    here = changed_here v.objects object (object_after code output (host_is_up v.objects spec) (passive_hosts_soft inv) spec.max) o at
+    here = changed_here v.objects object (object_after v.clock code output (host_is_up v.objects spec) (passive_hosts_soft inv) spec.max) o at
 
     left : slice_get b.objects object ≡ Some after
     left = ap (λ (os : List Object). slice_get os object) (sym (kept_objects inv (counted b) t)) ∙ h.left

@@ -36,6 +36,7 @@ pub mod SentLemmas
 pub mod SilenceLemmas
 pub mod FirstLemmas
 pub mod UnlessLemmas
+pub mod WithheldLemmas
 pub mod RecoveryLemmas
 pub mod RepeatLemmas
 pub mod OnceLemmas

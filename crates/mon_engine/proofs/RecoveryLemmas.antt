@@ -75,13 +75,13 @@ taken_recovers inv w e object output spec o at h =
     end = advanced inv (counted b) t
 
     o1 : Object
-    o1 = object_after 0 output (host_is_up v.objects spec) (passive_hosts_soft inv) spec.max o
+    o1 = object_after v.clock 0 output (host_is_up v.objects spec) (passive_hosts_soft inv) spec.max o
 
     notice : Notice
     notice = record { subject = subject_of u.clock words.Recovery object o1 o1.number; contacts = recipients inv u.contacts object o1.number letter.R true }
 
     here : slice_get with_it.objects object ≡ Some o1
-    here = changed_here v.objects object (object_after 0 output (host_is_up v.objects spec) (passive_hosts_soft inv) spec.max) o at
+    here = changed_here v.objects object (object_after v.clock 0 output (host_is_up v.objects spec) (passive_hosts_soft inv) spec.max) o at
 
     -- no problem, so that no downtime starts
     same : u ≡ with_it

@@ -105,7 +105,7 @@ taken_problems inv v object code output spec o at = noticed_when (Problems inv v
     u = with_started inv with_it object
 
     o1 : Object
-    o1 = object_after code output (host_is_up v.objects spec) (passive_hosts_soft inv) spec.max o
+    o1 = object_after v.clock code output (host_is_up v.objects spec) (passive_hosts_soft inv) spec.max o
 
     quiet : Quiet v.notices u.notices
     quiet = (started_before inv v with_it object refl refl).quiet
@@ -115,7 +115,7 @@ taken_problems inv v object code output spec o at = noticed_when (Problems inv v
 
     is_o1 : (p : Object) → slice_get u.objects object ≡ Some p → p ≡ o1
     is_o1 p there = same_Some p o1 (sym there ∙ ap (λ (x : World). slice_get x.objects object) (started_leaves inv with_it object)
-        ∙ changed_here v.objects object (object_after code output (host_is_up v.objects spec) (passive_hosts_soft inv) spec.max) o at)
+        ∙ changed_here v.objects object (object_after v.clock code output (host_is_up v.objects spec) (passive_hosts_soft inv) spec.max) o at)
 
     code_is : o1.status.code ≡ code
     code_is = code_after o.status code (host_is_up v.objects spec) (passive_hosts_soft inv) spec.max
@@ -268,11 +268,11 @@ result_told inv v x other output spec o object code m at same_code h = noticed_w
 
     told_u : IsTold u.objects object code m
     told_u = subst (λ (os : List Object). IsTold os object code m) (sym (ap (λ (y : World). y.objects) (started_leaves inv with_it x)))
-        (changed_told v.objects x object code m (object_after other output (host_is_up v.objects spec) (passive_hosts_soft inv) spec.max) (λ p. (refl, refl, refl)) h)
+        (changed_told v.objects x object code m (object_after v.clock other output (host_is_up v.objects spec) (passive_hosts_soft inv) spec.max) (λ p. (refl, refl, refl)) h)
 
     code_of : (p : Object) → slice_get u.objects x ≡ Some p → p.status.code ≡ other
     code_of p there =
-        let is = same_Some p _ (sym there ∙ ap (λ (y : World). slice_get y.objects x) (started_leaves inv with_it x) ∙ changed_here v.objects x (object_after other output (host_is_up v.objects spec) (passive_hosts_soft inv) spec.max) o at) in
+        let is = same_Some p _ (sym there ∙ ap (λ (y : World). slice_get y.objects x) (started_leaves inv with_it x) ∙ changed_here v.objects x (object_after v.clock other output (host_is_up v.objects spec) (passive_hosts_soft inv) spec.max) o at) in
         ap (λ (y : Object). y.status.code) is ∙ code_after o.status other (host_is_up v.objects spec) (passive_hosts_soft inv) spec.max
 
     repeated : (s : ObjectSpec) (p : Object) → slice_get u.objects x ≡ Some p → (n : Notice) → problem_notice inv u x s p ≡ Some n → x ≡ object → slice_get (changed_at u.objects x (after_told u.clock)) object ≡ Some (after_told u.clock told_u.of)

@@ -27,12 +27,12 @@ use Rattle.mon_engine.proofs.PartLemmas.{later, with_states, with_downtimes, wit
 use Rattle.mon_engine.proofs.AcknowledgementLemmas.{fewer_world}
 
 -- the objects after a result
-result_states : (inv : Configuration) (n : ℕ) (os : List Object) (object : ℕ) (spec : ObjectSpec) (code : ℕ) (output : List ℕ) (up soft : Bool) → IsInventory inv → AreObjectStates n inv.objects os
-    → slice_get inv.objects object ≡ Some spec → AreObjectStates n inv.objects (changed_at os object (object_after code output up soft spec.max))
-result_states inv n os object spec code output up soft sound states at = changed_states n n inv.objects os object (object_after code output up soft spec.max) (omega arith) states
+result_states : (inv : Configuration) (n : ℕ) (os : List Object) (object : ℕ) (spec : ObjectSpec) (clock code : ℕ) (output : List ℕ) (up soft : Bool) → IsInventory inv → AreObjectStates n inv.objects os
+    → slice_get inv.objects object ≡ Some spec → AreObjectStates n inv.objects (changed_at os object (object_after clock code output up soft spec.max))
+result_states inv n os object spec clock code output up soft sound states at = changed_states n n inv.objects os object (object_after clock code output up soft spec.max) (omega arith) states
     (λ s o a k. (let same : spec ≡ s = cc in
-    subst (λ (t : ObjectSpec). IsObjectState t (object_after code output up soft spec.max o)) same
-    (result_state spec o code output up soft (sound.objects object spec at).max_least (subst (λ (t : ObjectSpec). IsObjectState t o) (sym same) k))))
+    subst (λ (t : ObjectSpec). IsObjectState t (object_after clock code output up soft spec.max o)) same
+    (result_state spec o clock code output up soft (sound.objects object spec at).max_least (subst (λ (t : ObjectSpec). IsObjectState t o) (sym same) k))))
     (λ o k. k)
 
 -- the comments after it
@@ -41,10 +41,10 @@ result_world : (inv : Configuration) (n : ℕ) (w : World) (object : ℕ) (spec 
 result_world inv n w object spec o code output sound h at = by_removed (result_unacknowledges o code)
   where
     after : List Object
-    after = changed_at w.objects object (object_after code output (host_is_up w.objects spec) (passive_hosts_soft inv) spec.max)
+    after = changed_at w.objects object (object_after w.clock code output (host_is_up w.objects spec) (passive_hosts_soft inv) spec.max)
 
     states : AreObjectStates n inv.objects after
-    states = result_states inv n w.objects object spec code output (host_is_up w.objects spec) (passive_hosts_soft inv) sound h.states at
+    states = result_states inv n w.objects object spec w.clock code output (host_is_up w.objects spec) (passive_hosts_soft inv) sound h.states at
 
     by_removed : (b : Bool) → IsWorldAt inv n (record w { objects = after; notes = if b then without_acknowledged object w.notes else w.notes })
     by_removed true = with_states inv n n (record w { notes = without_acknowledged object w.notes }) after (omega arith) (fewer_world inv n w (λ c. not ((eqb c.object object) && c.ack && not c.persistent)) h) states
@@ -77,36 +77,36 @@ noticed_world inv n w object change h = noticed_cases (Reaches inv (n + 1) w) in
     let sound = sound_as x (recovery_notice_as inv w object change.hard_recovery spec o (slice_get_within inv.objects object spec known)) in
     record {
       world = with_states inv n (n + 1) (told w x) _ (omega arith) (with_more_notices inv n w _ h sound)
-          (changed_states n (n + 1) inv.objects w.objects object reset (omega arith) h.states (λ spec o a s. same_status spec o _ refl s) (λ o few. omega arith));
+          (changed_states n (n + 1) inv.objects w.objects object reset (omega arith) h.states (λ spec o a s. same_status spec o _ refl refl s) (λ o few. omega arith));
       entries = refl;
       before = refl;
     }))
     (λ spec o known at n1 e. (let sound = sound_as _ (problem_notice_as inv w object spec o (slice_get_within inv.objects object spec known)) in
     record {
       world = with_states inv n (n + 1) (told w (Some n1)) _ (omega arith) (with_more_notices inv n w _ h (subst (IfAny (IsNoticeOf inv)) e sound))
-          (changed_states n (n + 1) inv.objects w.objects object (after_told w.clock) (omega arith) h.states (λ spec o a s. same_status spec o _ refl s) (λ o few. omega (arith, few)));
+          (changed_states n (n + 1) inv.objects w.objects object (after_told w.clock) (omega arith) h.states (λ spec o a s. same_status spec o _ refl refl s) (λ o few. omega (arith, few)));
       entries = refl;
       before = refl;
     }))
 
 -- w0 is the world by its fields, os and notes are what the result leaves of it: what changed is told of in a world that holds together
-pub change_found : (inv : Configuration) (n : ℕ) (w0 w w' : World) (object : ℕ) (spec : ObjectSpec) (o : Object) (code : ℕ) (output text : List ℕ) (up soft : Bool) (checked : Checked) (os : List Object) (notes : CommentList)
-    → IsInventory inv → IsWorldAt inv n w → slice_get inv.objects object ≡ Some spec → w0 ≡ w → text ≡ output → up ≡ host_is_up w0.objects spec → soft ≡ passive_hosts_soft inv → checked ≡ checked_as o code
-    → os ≡ changed_at w0.objects object (object_after code text up soft spec.max) → notes ≡ (if checked.unacknowledges then without_acknowledged object w0.notes else w0.notes)
+pub change_found : (inv : Configuration) (n : ℕ) (w0 w w' : World) (object : ℕ) (spec : ObjectSpec) (o : Object) (clock code : ℕ) (output text : List ℕ) (up soft : Bool) (checked : Checked) (os : List Object) (notes : CommentList)
+    → IsInventory inv → IsWorldAt inv n w → slice_get inv.objects object ≡ Some spec → w0 ≡ w → clock ≡ w0.clock → text ≡ output → up ≡ host_is_up w0.objects spec → soft ≡ passive_hosts_soft inv → checked ≡ checked_as o code
+    → os ≡ changed_at w0.objects object (object_after clock code text up soft spec.max) → notes ≡ (if checked.unacknowledges then without_acknowledged object w0.notes else w0.notes)
     → w' ≡ with_started inv (record w0 { objects = os; notes = notes }) object → IsWorldAt inv n w'
-change_found inv n w0 w w' object spec o code output text up soft checked os notes sound h at v same host hosts is objects dropped last =
+change_found inv n w0 w w' object spec o clock code output text up soft checked os notes sound h at v now same host hosts is objects dropped last =
     subst (IsWorldAt inv n) (sym (last ∙ ap (λ (x : World). with_started inv x object) taken)) (with_started_world inv n (with_result inv w object spec o code output) object (result_world inv n w object spec o code output sound h at)).world
   where
-    after : List ℕ → Bool → Bool → List Object
-    after x b s = changed_at w0.objects object (object_after code x b s spec.max)
+    after : ℕ → List ℕ → Bool → Bool → List Object
+    after t x b s = changed_at w0.objects object (object_after t code x b s spec.max)
 
     left : Bool → CommentList
     left b = if b then without_acknowledged object w0.notes else w0.notes
 
     taken : record w0 { objects = os; notes = notes } ≡ with_result inv w object spec o code output
     taken =
-        ap (λ (xs : List Object). record w0 { objects = xs; notes = notes }) (objects ∙ ap (λ (x : List ℕ). after x up soft) same ∙ ap (λ (b : Bool). after output b soft) host ∙ ap (after output (host_is_up w0.objects spec)) hosts)
-        ∙ ap (λ (ns : CommentList). record w0 { objects = after output (host_is_up w0.objects spec) (passive_hosts_soft inv); notes = ns }) (dropped ∙ ap (λ (c : Checked). left c.unacknowledges) is)
+        ap (λ (xs : List Object). record w0 { objects = xs; notes = notes }) (objects ∙ ap (λ (t : ℕ). after t text up soft) now ∙ ap (λ (x : List ℕ). after w0.clock x up soft) same ∙ ap (λ (b : Bool). after w0.clock output b soft) host ∙ ap (after w0.clock output (host_is_up w0.objects spec)) hosts)
+        ∙ ap (λ (ns : CommentList). record w0 { objects = after w0.clock output (host_is_up w0.objects spec) (passive_hosts_soft inv); notes = ns }) (dropped ∙ ap (λ (c : Checked). left c.unacknowledges) is)
         ∙ ap (λ (x : World). with_result inv x object spec o code output) v
 
 pub result_follows : (inv : Configuration) (w w' : World) (object code : ℕ) (output : List ℕ) → IsInventory inv → IsWorld inv w → after_check_result inv w object code output ≡ Ok w' → Follows inv w w'

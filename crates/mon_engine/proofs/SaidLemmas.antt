@@ -25,7 +25,7 @@ use Rattle.mon_engine.specs.declared.object.Acknowledgement.TheVariants.{Unackno
 use Rattle.mon_engine.specs.declared.objects.Setting.{Setting}
 use Rattle.mon_engine.specs.declared.objects.Setting.TheVariants as settings
 use Rattle.mon_engine.specs.Places.{changed_at, change_to, changed_each}
-use Rattle.mon_engine.specs.Objects.{host_is_up, object_after, result_unacknowledges, after_told, reset, custom_number, with_setting, with_acknowledgement, acknowledgement_of}
+use Rattle.mon_engine.specs.Objects.{host_is_up, is_of_hard_problem, object_after, result_unacknowledges, after_told, reset, custom_number, with_setting, with_acknowledgement, acknowledgement_of}
 use Rattle.mon_engine.specs.World.{World}
 use Rattle.mon_engine.specs.Notices.{noticed}
 use Rattle.mon_engine.specs.Results.{IsCodeAt, with_result, started_all, with_started, after_taken}
@@ -152,12 +152,17 @@ four : (service : Bool) (code : ℕ) → IsCodeOf service code → code < 4
 four true code h = h
 four false code h = omega (arith, h)
 
-result_said : (o : Object) (code : ℕ) (output : List ℕ) (up soft : Bool) (max : ℕ) → IsCodeOf o.status.service code → Lacks 10 output → IsSaidObject o → IsSaidObject (object_after code output up soft max o)
-result_said o code output up soft max is line h = record {
+result_said : (o : Object) (clock code : ℕ) (output : List ℕ) (up soft : Bool) (max : ℕ) → clock ≤ GREATEST_NUMBER → IsCodeOf o.status.service code → Lacks 10 output → IsSaidObject o → IsSaidObject (object_after clock code output up soft max o)
+result_said o clock code output up soft max small is line h = record {
   code = subst (λ (s : Bool). IsCodeOf s (status_after o.status code up soft max).code) (sym (kind_is o.status)) (subst (IsCodeOf o.status.service) (sym (code_is o.status)) is);
   last = h.last;
   notified = h.notified;
   not_before = delayed (change_by o.status code).code_changed;
+  moments = record {
+    checked = small;
+    changed = later (change_by o.status code).code_changed;
+    since = begun (is_of_hard_problem o.status) (is_of_hard_problem (status_after o.status code up soft max));
+  };
   output = line;
 }
   where
@@ -171,20 +176,29 @@ result_said o code output up soft max is line h = record {
     delayed true = tt
     delayed false = h.not_before
 
+    later : (b : Bool) → (if b then clock else o.moments.changed) ≤ GREATEST_NUMBER
+    later true = small
+    later false = h.moments.changed
+
+    begun : (was is : Bool) → IfSome (if is then (if was then o.moments.since else Some clock) else None) (λ moment. moment ≤ GREATEST_NUMBER)
+    begun was false = tt
+    begun true true = h.moments.since
+    begun false true = small
+
 told_said : (clock : ℕ) (o : Object) → clock ≤ GREATEST_NUMBER → IsSaidObject o → IsSaidObject (after_told clock o)
-told_said clock o small h = record { code = h.code; last = small; notified = four o.status.service o.status.code h.code; not_before = h.not_before; output = h.output }
+told_said clock o small h = record { code = h.code; last = small; notified = four o.status.service o.status.code h.code; not_before = h.not_before; moments = h.moments; output = h.output }
 
 reset_said : (o : Object) → IsSaidObject o → IsSaidObject (reset o)
-reset_said o h = record { code = h.code; last = tt; notified = tt; not_before = tt; output = h.output }
+reset_said o h = record { code = h.code; last = tt; notified = tt; not_before = tt; moments = h.moments; output = h.output }
 
 acknowledgement_said : (a : _) (o : Object) → IsSaidObject o → IsSaidObject (with_acknowledgement a o)
-acknowledgement_said a o h = record { code = h.code; last = h.last; notified = h.notified; not_before = h.not_before; output = h.output }
+acknowledgement_said a o h = record { code = h.code; last = h.last; notified = h.notified; not_before = h.not_before; moments = h.moments; output = h.output }
 
 setting_said : (s : Setting) (o : Object) → IsSaidSetting s → IsSaidObject o → IsSaidObject (with_setting s o)
-setting_said (settings.Passive on) o is h = record { code = h.code; last = h.last; notified = h.notified; not_before = h.not_before; output = h.output }
-setting_said (settings.Notify on) o is h = record { code = h.code; last = h.last; notified = h.notified; not_before = h.not_before; output = h.output }
-setting_said (settings.Delay moment) o is h = record { code = h.code; last = h.last; notified = h.notified; not_before = is; output = h.output }
-setting_said (settings.Number n) o is h = record { code = h.code; last = h.last; notified = h.notified; not_before = h.not_before; output = h.output }
+setting_said (settings.Passive on) o is h = record { code = h.code; last = h.last; notified = h.notified; not_before = h.not_before; moments = h.moments; output = h.output }
+setting_said (settings.Notify on) o is h = record { code = h.code; last = h.last; notified = h.notified; not_before = h.not_before; moments = h.moments; output = h.output }
+setting_said (settings.Delay moment) o is h = record { code = h.code; last = h.last; notified = h.notified; not_before = is; moments = h.moments; output = h.output }
+setting_said (settings.Number n) o is h = record { code = h.code; last = h.last; notified = h.notified; not_before = h.not_before; moments = h.moments; output = h.output }
 
 each_said : (os : List Object) (ks : List ℕ) (s : Setting) → IsSaidSetting s → All IsSaidObject os → All IsSaidObject (changed_each os ks (with_setting s))
 unfolding changed_each
@@ -200,8 +214,8 @@ taken_said : (inv : Configuration) (n : ℕ) (w : World) (object code : ℕ) (ou
     → slice_get inv.objects object ≡ Some spec → All IsSaidObject w.objects → All IsSaidObject (after_taken inv w object code output spec o).objects
 taken_said inv n w object code output spec o small states is line known h =
     let u = with_result inv w object spec o code output in
-    let first : All IsSaidObject u.objects = changed_said w.objects object (object_after code output (host_is_up w.objects spec) (passive_hosts_soft inv) spec.max)
-    (λ x at said. result_said x code output _ _ _ (subst (λ (b : Bool). IsCodeOf b code) (sym (states.each object spec x known at).kind) (is spec known)) line said) h in
+    let first : All IsSaidObject u.objects = changed_said w.objects object (object_after w.clock code output (host_is_up w.objects spec) (passive_hosts_soft inv) spec.max)
+    (λ x at said. result_said x w.clock code output _ _ _ small (subst (λ (b : Bool). IsCodeOf b code) (sym (states.each object spec x known at).kind) (is spec known)) line said) h in
     let started = started_leaves inv u object in
     noticed_said inv (with_started inv u object) object (change_by o.status code)
     (subst (λ (t : ℕ). t ≤ GREATEST_NUMBER) (sym (ap (λ (x : World). x.clock) started)) small)

@@ -197,7 +197,7 @@ objects_first (spec ∷ specs) = All-cons IsSaidObject (initial_object spec) (ma
     code false = omega arith
 
     first : IsSaidObject (initial_object spec)
-    first = record { code = code (is_service spec); last = tt; notified = tt; not_before = tt; output = tt }
+    first = record { code = code (is_service spec); last = tt; notified = tt; not_before = tt; moments = record { checked = tt; changed = omega arith; since = tt }; output = tt }
 
 pub an_initial_world_is_saved : AnInitialWorldIsSaved
 unfolding initial

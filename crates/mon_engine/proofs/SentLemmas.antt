@@ -117,7 +117,7 @@ taken_lets inv v object code output spec o =
     let u : World = with_result inv v object spec o code output in
     let first : IsOn inv v a u = (
       more_same (IsLet inv v a) v.notices,
-      changed_agrees v u object (object_after code output (host_is_up v.objects spec) (passive_hosts_soft inv) spec.max) (λ p. refl) refl refl refl,
+      changed_agrees v u object (object_after v.clock code output (host_is_up v.objects spec) (passive_hosts_soft inv) spec.max) (λ p. refl) refl refl refl,
     ) in
     let on = noticed_lets inv v (with_started inv u object) a object (change_by o.status code) (started_lets inv v u a object first) in
     (on.0, inr on.1)

@@ -1,5 +1,5 @@
 -- What results and commands leave of objects that hold together.
-use Rattle.std.proofs.Common.{◌≡◌, ℕ, zero, suc, ◌+◌, ◌≤◌, Bool, true, false, not, ◌||◌, eqb, leb, List, [], ◌∷◌, Option, Some, None, map, slice_get, rules, if◌then◌else◌, inl, inr, refl, ap, sym, ◌∙◌, subst, arith}
+use Rattle.std.proofs.Common.{◌≡◌, ℕ, zero, suc, ◌+◌, ◌≤◌, Bool, true, false, not, ◌||◌, eqb, leb, List, [], ◌∷◌, Option, Some, None, is_some, map, slice_get, rules, if◌then◌else◌, inl, inr, refl, ap, sym, ◌∙◌, subst, arith}
 use Rattle.std.proofs.lemmas.Bool.{leb-false}
 use Rattle.std.proofs.lemmas.List.{length-set, length-map}
 use Rattle.cmd_types.specs.declared.limits.TheConstants.{GREATEST_NUMBER}
@@ -9,11 +9,12 @@ use Rattle.mon_inventory.specs.declared.records.ObjectSpec.{ObjectSpec}
 use Rattle.mon_inventory.specs.Configuration.{Configuration}
 use Rattle.mon_inventory.specs.Facts.{IsInventory}
 use Rattle.mon_engine.specs.declared.object.Object.{Object}
+use Rattle.mon_engine.specs.declared.object.Moments.{Moments}
 use Rattle.mon_engine.specs.declared.objects.Setting.{Setting}
 use Rattle.mon_engine.specs.declared.objects.Setting.TheVariants as settings
 use Rattle.mon_engine.specs.Places.{changed_at, change_to, changed_each}
 use Rattle.mon_engine.specs.Effects.{IsInRange}
-use Rattle.mon_engine.specs.Objects.{initial_object, object_after, with_setting}
+use Rattle.mon_engine.specs.Objects.{is_of_hard_problem, initial_object, since_after, object_after, with_setting}
 use Rattle.mon_engine.specs.Sound.{IsObjectState, AreObjectStates}
 use Rattle.mon_engine.proofs.CountLemmas.{setting_leaves}
 use Rattle.mon_engine.proofs.ListLemmas.{set_cases}
@@ -81,15 +82,19 @@ changed_states n m specs os k f l states keeps grows = by_old (slice_get os k) r
       ];
     }
 
--- what leaves the status alone
-pub same_status : (spec : ObjectSpec) (o o' : Object) → o'.status ≡ o.status → IsObjectState spec o → IsObjectState spec o'
-same_status spec o o' e s = record { within = subst (IsWithin spec.max) (sym e) s.within; kind = ap (λ (t : Status). t.service) e ∙ s.kind }
+-- what leaves the status and the moments alone
+pub same_status : (spec : ObjectSpec) (o o' : Object) → o'.status ≡ o.status → o'.moments ≡ o.moments → IsObjectState spec o → IsObjectState spec o'
+same_status spec o o' e f s = record {
+  within = subst (IsWithin spec.max) (sym e) s.within;
+  kind = ap (λ (t : Status). t.service) e ∙ s.kind;
+  since = ap (λ (t : Moments). is_some t.since) f ∙ s.since ∙ sym (ap is_of_hard_problem e);
+}
 
--- what leaves the status and the number alone
-pub kept_states : (n : ℕ) (specs : List ObjectSpec) (os : List Object) (k : ℕ) (f : Object → Object) → ((o : Object) → (f o).status ≡ o.status) → ((o : Object) → (f o).number ≡ o.number)
+-- what leaves the status, the moments and the number alone
+pub kept_states : (n : ℕ) (specs : List ObjectSpec) (os : List Object) (k : ℕ) (f : Object → Object) → ((o : Object) → (f o).status ≡ o.status) → ((o : Object) → (f o).moments ≡ o.moments) → ((o : Object) → (f o).number ≡ o.number)
     → AreObjectStates n specs os → AreObjectStates n specs (changed_at os k f)
-kept_states n specs os k f status number states =
-    changed_states n n specs os k f (omega arith) states (λ spec o a s. same_status spec o (f o) (status o) s) (λ o h. (let same = number o in omega (arith, same, h)))
+kept_states n specs os k f status moments number states =
+    changed_states n n specs os k f (omega arith) states (λ spec o a s. same_status spec o (f o) (status o) (moments o) s) (λ o h. (let same = number o in omega (arith, same, h)))
 
 -- what commands set
 setting_number : (s : Setting) (o : Object) (n : ℕ) → IsInRange s → o.number ≤ GREATEST_NUMBER + n → (with_setting s o).number ≤ GREATEST_NUMBER + n
@@ -98,17 +103,36 @@ setting_number (settings.Notify on) o n is h = h
 setting_number (settings.Delay moment) o n is h = h
 setting_number (settings.Number m) o n is h = omega (arith, is)
 
+setting_moments : (s : Setting) (o : Object) → (with_setting s o).moments ≡ o.moments
+setting_moments (settings.Passive on) o = refl
+setting_moments (settings.Notify on) o = refl
+setting_moments (settings.Delay moment) o = refl
+setting_moments (settings.Number n) o = refl
+
 pub set_states : (n : ℕ) (specs : List ObjectSpec) (os : List Object) (k : ℕ) (s : Setting) → IsInRange s → AreObjectStates n specs os → AreObjectStates n specs (changed_at os k (with_setting s))
 set_states n specs os k s is states =
-    changed_states n n specs os k (with_setting s) (omega arith) states (λ spec o a t. same_status spec o (with_setting s o) (setting_leaves s o).0 t) (λ o h. setting_number s o n is h)
+    changed_states n n specs os k (with_setting s) (omega arith) states (λ spec o a t. same_status spec o (with_setting s o) (setting_leaves s o).0 (setting_moments s o) t) (λ o h. setting_number s o n is h)
 
 pub set_each_states : (n : ℕ) (specs : List ObjectSpec) (os : List Object) (ks : List ℕ) (s : Setting) → IsInRange s → AreObjectStates n specs os → AreObjectStates n specs (changed_each os ks (with_setting s))
 unfolding changed_each
 set_each_states n specs os [] s is states = states
 set_each_states n specs os (k ∷ ks) s is states = set_each_states n specs (changed_at os k (with_setting s)) ks s is (set_states n specs os k s is states)
 
-pub result_state : (spec : ObjectSpec) (o : Object) (code : ℕ) (output : List ℕ) (up soft : Bool) → 1 ≤ spec.max → IsObjectState spec o → IsObjectState spec (object_after code output up soft spec.max o)
-result_state spec o code output up soft least s = record { within = within_after o.status code spec.max up soft least s.within; kind = kind_after o.status code up ∙ s.kind }
+-- the beginning of a hard problem is known after a result, where it was before
+since_known : (clock : ℕ) (before after : Status) (since : Option ℕ) → is_some since ≡ is_of_hard_problem before → is_some (since_after clock before since after) ≡ is_of_hard_problem after
+since_known clock before after since h = by_problems (is_of_hard_problem before) (is_of_hard_problem after) h
+  where
+    by_problems : (was is : Bool) → is_some since ≡ was → is_some (if is then (if was then since else Some clock) else None) ≡ is
+    by_problems was false e = refl
+    by_problems true true e = e
+    by_problems false true e = refl
+
+pub result_state : (spec : ObjectSpec) (o : Object) (clock code : ℕ) (output : List ℕ) (up soft : Bool) → 1 ≤ spec.max → IsObjectState spec o → IsObjectState spec (object_after clock code output up soft spec.max o)
+result_state spec o clock code output up soft least s = record {
+  within = within_after o.status code spec.max up soft least s.within;
+  kind = kind_after o.status code up ∙ s.kind;
+  since = since_known clock o.status (status_after o.status code up soft spec.max) o.moments.since s.since;
+}
   where
     kind_after : (t : Status) (code : ℕ) (up : Bool) → (status_after t code up soft spec.max).service ≡ t.service
     kind_after t code up = search rules
@@ -121,7 +145,7 @@ mapped_at f (z ∷ xs) zero x y e h = let same : z ≡ x = cc in let is : f z �
 mapped_at f (z ∷ xs) (suc k) x y e h = mapped_at f xs k x y e h
 
 initial_state : (spec : ObjectSpec) → 1 ≤ spec.max → IsObjectState spec (initial_object spec)
-initial_state spec least = record { within = record { first = omega arith; last = least; soft = λ e. absurd (cc) }; kind = refl }
+initial_state spec least = record { within = record { first = omega arith; last = least; soft = λ e. absurd (cc) }; kind = refl; since = refl }
 
 initial_number : (xs : List ObjectSpec) (k : ℕ) (o : Object) → slice_get (map initial_object xs) k ≡ Some o → o.number ≤ GREATEST_NUMBER + 0
 initial_number [] k o e = absurd (cc)

@@ -72,7 +72,7 @@ checked_stays inv v w object x code output o there e = check_result_cases (λ (y
     taken : (spec : ObjectSpec) (p : Object) → (slice_get (after_taken inv v x code output spec p).objects object ≡ Some o) ⊎ (x ≡ object)
     taken spec p =
         let on : World = with_started inv (with_result inv v x spec p code output) x in
-        let result = place_stays (x ≡ object) v.objects x object (object_after code output (host_is_up v.objects spec) (passive_hosts_soft inv) spec.max) o (λ same. same) (inl there) in
+        let result = place_stays (x ≡ object) v.objects x object (object_after v.clock code output (host_is_up v.objects spec) (passive_hosts_soft inv) spec.max) o (λ same. same) (inl there) in
         let begun : (slice_get on.objects object ≡ Some o) ⊎ (x ≡ object) = subst (λ (os : List Object). (slice_get os object ≡ Some o) ⊎ (x ≡ object)) (sym (ap (λ (y : World). y.objects) (started_leaves inv (with_result inv v x spec p code output) x))) result in
         noticed_cases (λ (y : World). (slice_get y.objects object ≡ Some o) ⊎ (x ≡ object)) inv on x (change_by p.status code) begun
         (λ s q known at. place_stays (x ≡ object) on.objects x object reset o (λ same. same) begun) (λ s q known at n k. place_stays (x ≡ object) on.objects x object (after_told on.clock) o (λ same. same) begun)

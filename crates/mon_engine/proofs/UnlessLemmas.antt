@@ -23,7 +23,9 @@ use Rattle.mon_engine.specs.Effects.{act}
 use Rattle.mon_engine.specs.Clock.{advanced}
 use Rattle.mon_engine.specs.Laws.{moment_of}
 use Rattle.mon_engine.specs.Step.{counted}
-use Rattle.mon_engine.specs.Withheld.{Withheld, Program, Switch, Downtime, Host, Letter, Acknowledged, Soft, NotBefore, Interval, Nobody, first_failing, next_problem, withheld_of, withheld}
+use Rattle.mon_engine.specs.declared.withheld.Withheld.{Withheld}
+use Rattle.mon_engine.specs.declared.withheld.Withheld.TheVariants.{Program, Switch, Downtime, Host, Letter, Acknowledged, Soft, NotBefore, Interval, Nobody}
+use Rattle.mon_engine.specs.Withheld.{first_failing, next_problem, withheld_of, withheld}
 use Rattle.mon_engine.specs.NoticeLaws.{went_out, with_result_at, TellsUnless, AProblemIsToldUnlessWithheld}
 use Rattle.mon_engine.proofs.ActLemmas.{started_leaves, check_result_cases}
 use Rattle.mon_engine.proofs.EntryLemmas.{found, kept_objects, applied_from}
@@ -65,7 +67,7 @@ problem_unless inv u object spec o =
 
 -- ---- a result
 
-withheld_is : (inv : Configuration) (u : World) (object : ℕ) (spec : ObjectSpec) (o : Object) → slice_get inv.objects object ≡ Some spec → slice_get u.objects object ≡ Some o → withheld inv u object ≡ withheld_of inv u object spec o
+pub withheld_is : (inv : Configuration) (u : World) (object : ℕ) (spec : ObjectSpec) (o : Object) → slice_get inv.objects object ≡ Some spec → slice_get u.objects object ≡ Some o → withheld inv u object ≡ withheld_of inv u object spec o
 unfolding withheld
 withheld_is inv u object spec o known at =
     ap (λ (s : Option ObjectSpec). of_object None (withheld_of inv u object) s (slice_get u.objects object)) known
@@ -100,10 +102,10 @@ taken_unless inv w e object code output spec o after bad known at there =
     p = next_problem inv u object spec after
 
     o1 : Object
-    o1 = object_after code output (host_is_up v.objects spec) (passive_hosts_soft inv) spec.max o
+    o1 = object_after v.clock code output (host_is_up v.objects spec) (passive_hosts_soft inv) spec.max o
 
     is_o1 : o1 ≡ after
-    is_o1 = same_Some o1 after (sym (ap (λ (x : World). slice_get x.objects object) (started_leaves inv with_it object) ∙ changed_here v.objects object (object_after code output (host_is_up v.objects spec) (passive_hosts_soft inv) spec.max) o at) ∙ there)
+    is_o1 = same_Some o1 after (sym (ap (λ (x : World). slice_get x.objects object) (started_leaves inv with_it object) ∙ changed_here v.objects object (object_after v.clock code output (host_is_up v.objects spec) (passive_hosts_soft inv) spec.max) o at) ∙ there)
 
     problem : eqb code 0 ≡ false
     problem = ne_eqb code 0 bad

@@ -17,12 +17,14 @@ pub mod Telling
 pub mod Sound
 pub mod Stops
 pub mod Saved
+pub mod Misfits
 pub mod SavedLaws
 pub mod Fields
 pub mod Held
 pub mod Figures
 pub mod Laws
 pub mod Withheld
+pub mod Status
 pub mod NoticeLaws
 pub mod DowntimeLaws
 pub mod TouchLaws

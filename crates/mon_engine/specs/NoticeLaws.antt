@@ -31,7 +31,8 @@ use Rattle.mon_engine.specs.Effects.{Act, named}
 use Rattle.mon_engine.specs.Laws.{moment_of, AppliesOne}
 use Rattle.mon_engine.specs.Results.{with_result, with_started}
 use Rattle.mon_engine.specs.Step.{step, meaning_from, meaning}
-use Rattle.mon_engine.specs.Withheld.{Withheld, withheld, next_problem}
+use Rattle.mon_engine.specs.declared.withheld.Withheld.{Withheld}
+use Rattle.mon_engine.specs.Withheld.{withheld, next_problem}
 
 -- the notices that went out between two worlds: those after the notices of the first, which remain (`TellsOfProblems`)
 abbrev pub went_out : (before after : World) → List Notice

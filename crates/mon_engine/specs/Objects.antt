@@ -1,11 +1,13 @@
 -- The state of one object, and how a result, a notice and a command change it.
 use Rattle.std.specs.Prelude.{ℕ, ◌+◌, ◌==◌, ◌&&◌, not, Bool, true, false, if◌then◌else◌, List, [], Option, Some, None, is_some, slice_get}
+use Rattle.mon_checks.specs.declared.status.Status.{Status}
 use Rattle.mon_checks.specs.States.{first_status, status_after, change_by}
 use Rattle.mon_inventory.specs.declared.records.ObjectSpec.{ObjectSpec}
 use Rattle.mon_notify.specs.Custom.{increments}
 use Rattle.mon_engine.specs.declared.object.Kind.{Kind}
 use Rattle.mon_engine.specs.declared.object.Kind.TheVariants.{Host, Service}
 use Rattle.mon_engine.specs.declared.object.Object.{Object}
+use Rattle.mon_engine.specs.declared.object.Moments.{Moments}
 use Rattle.mon_engine.specs.declared.object.Acknowledgement.{Acknowledgement}
 use Rattle.mon_engine.specs.declared.object.Acknowledgement.TheVariants.{Unacknowledged, Normal, Sticky}
 use Rattle.mon_engine.specs.declared.objects.Setting.{Setting}
@@ -34,10 +36,19 @@ abbrev pub is_kind : Kind → Option ObjectSpec → Bool
 is_kind kind None = false
 is_kind kind (Some spec) = is_of kind spec.service
 
+-- the status is that of a hard problem
+abbrev pub is_of_hard_problem : Status → Bool
+is_of_hard_problem s = not (s.code == 0) && s.hard
+
+-- the moments of an object that has had no result
+abbrev pub first_moments : Moments
+first_moments = record { checked = None; changed = 0; since = None }
+
 -- an object that has had no result and no command
 abbrev pub initial_object : ObjectSpec → Object
 initial_object spec = record {
   status = first_status (is_service spec);
+  moments = first_moments;
   output = [];
   acknowledgement = Unacknowledged;
   number = 0;
@@ -72,10 +83,24 @@ acknowledgement_of sticky = if sticky == 2 then Sticky else Normal
 
 -- ---- results
 
--- the object after a result; a change of the code ends a delay of its notices
-abbrev pub object_after : (code : ℕ) → (output : List ℕ) → (host_up soft_hosts : Bool) → (max : ℕ) → Object → Object
-object_after code output host_up soft_hosts max o = record o {
+-- the moment at which a hard problem began, where the status is that of one: the clock, or the one before where it was
+-- a hard problem already
+abbrev pub since_after : (clock : ℕ) → (before : Status) → Option ℕ → (after : Status) → Option ℕ
+since_after clock before since after = if is_of_hard_problem after then (if is_of_hard_problem before then since else Some clock) else None
+
+-- the moments of an object after a result at this clock
+abbrev pub moments_after : (clock code : ℕ) → (before after : Status) → Moments → Moments
+moments_after clock code before after t = record {
+  checked = Some clock;
+  changed = if (change_by before code).code_changed then clock else t.changed;
+  since = since_after clock before t.since after;
+}
+
+-- the object after a result at this clock; a change of the code ends a delay of its notices
+abbrev pub object_after : (clock code : ℕ) → (output : List ℕ) → (host_up soft_hosts : Bool) → (max : ℕ) → Object → Object
+object_after clock code output host_up soft_hosts max o = record o {
   status = status_after o.status code host_up soft_hosts max;
+  moments = moments_after clock code o.status (status_after o.status code host_up soft_hosts max) o.moments;
   output = output;
   acknowledgement = acknowledgement_after o.acknowledgement (change_by o.status code).code_changed (change_by o.status code).recovered;
   not_before = if (change_by o.status code).code_changed then None else o.not_before;

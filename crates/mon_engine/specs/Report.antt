@@ -36,6 +36,11 @@ line word fields = word ++ fields_text fields ++ 10 ∷ []
 abbrev pub flag : Bool → List ℕ
 flag on = if on then 49 ∷ [] else 48 ∷ []
 
+-- a number, or an empty field
+abbrev pub optional : Option ℕ → List ℕ
+optional None = []
+optional (Some n) = decimal n
+
 -- ---- lines
 
 -- the line of the clock, in seconds

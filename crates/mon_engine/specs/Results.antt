@@ -14,7 +14,7 @@ use Rattle.mon_engine.specs.declared.switches.Program.{Program}
 use Rattle.mon_engine.specs.declared.outcome.Reason.{Reason}
 use Rattle.mon_engine.specs.declared.outcome.Reason.TheVariants.{UnknownHost, PassiveOff}
 use Rattle.mon_engine.specs.Places.{changed_at}
-use Rattle.mon_engine.specs.Objects.{is_service, kind_of, host_is_up, object_after, result_unacknowledges}
+use Rattle.mon_engine.specs.Objects.{is_service, kind_of, host_is_up, is_of_hard_problem, object_after, result_unacknowledges}
 use Rattle.mon_engine.specs.Switches.{accepts}
 use Rattle.mon_engine.specs.World.{World}
 use Rattle.mon_engine.specs.Notices.{of_object, downtime_notice, noticed}
@@ -26,14 +26,14 @@ is_taken program spec o = accepts program (kind_of spec) && o.passive
 -- the object takes the result; where that removes an acknowledgement, its comments go
 abbrev pub with_result : Configuration → World → (object : ℕ) → ObjectSpec → Object → (code : ℕ) → (output : List ℕ) → World
 with_result inv w object spec o code output = record w {
-  objects = changed_at w.objects object (object_after code output (host_is_up w.objects spec) (passive_hosts_soft inv) spec.max);
+  objects = changed_at w.objects object (object_after w.clock code output (host_is_up w.objects spec) (passive_hosts_soft inv) spec.max);
   notes = if result_unacknowledges o code then without_acknowledged object w.notes else w.notes;
 }
 
 -- a result is of an object that is there (as `of_object` says), so none is no problem
 abbrev pub is_hard_problem : Option Object → Bool
 is_hard_problem None = false
-is_hard_problem (Some o) = not (o.status.code == 0) && o.status.hard
+is_hard_problem (Some o) = is_of_hard_problem o.status
 
 -- the flexible downtimes of the object that wait for a problem start, each with its notice, in order of id
 unfoldable pub started_all : Configuration → World → (object : ℕ) → World

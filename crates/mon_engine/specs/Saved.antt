@@ -10,6 +10,7 @@ use Rattle.mon_downtime.specs.Records.{AreRecords}
 use Rattle.mon_inventory.specs.declared.records.ObjectSpec.{ObjectSpec}
 use Rattle.mon_inventory.specs.Configuration.{Configuration}
 use Rattle.mon_engine.specs.declared.object.Object.{Object}
+use Rattle.mon_engine.specs.declared.object.Moments.{Moments}
 use Rattle.mon_engine.specs.declared.state.TheConstants.{GREATEST_BEFORE}
 use Rattle.mon_engine.specs.World.{World}
 use Rattle.mon_engine.specs.Sound.{IsObjectState, ever, IsWorld}
@@ -22,12 +23,19 @@ pub record IsSaid (author text : List ℕ) : Type 0 where
   pub author_line : Lacks 10 author
   pub text_line : Lacks 10 text
 
+-- the moments of an object are in range
+pub record AreMoments (t : Moments) : Type 0 where
+  pub checked : IfSome t.checked (λ moment. moment ≤ GREATEST_NUMBER)
+  pub changed : t.changed ≤ GREATEST_NUMBER
+  pub since : IfSome t.since (λ moment. moment ≤ GREATEST_NUMBER)
+
 -- the code, the moments and the output of an object are in range
 pub record IsSaidObject (o : Object) : Type 0 where
   pub code : IsCodeOf o.status.service o.status.code
   pub last : IfSome o.last (λ moment. moment ≤ GREATEST_NUMBER)
   pub notified : IfSome o.notified (λ code. code < 4)
   pub not_before : IfSome o.not_before (λ moment. moment ≤ GREATEST_NUMBER)
+  pub moments : AreMoments o.moments
   pub output : Lacks 10 o.output
 
 -- the moment and the texts of a comment are in range
@@ -45,6 +53,12 @@ pub record IsSaidWorld (w : World) : Type 0 where
   pub comments : All IsSaidComment w.notes.comments
   pub downtimes : All IsSaidDowntime w.downtimes
 
+-- the object fits this line of the inventory after this number of entries
+pub record Fits (before : ℕ) (spec : ObjectSpec) (o : Object) : Type 0 where
+  pub state : IsObjectState spec o
+  pub number : o.number ≤ GREATEST_NUMBER + before
+  pub said : IsSaidObject o
+
 -- ---- what is written and read back
 
 -- all has been printed, and there is room to count on: a condition that holds of each world that entries lead to, once
@@ -61,11 +75,3 @@ pub record IsSaved (inv : Configuration) (w : World) : Type 0 where
 -- the world from which a monitor resumes: its entries are counted anew, after all that there ever were
 abbrev pub going_on : World → World
 going_on w = record w { entries = 0; before = ever w }
-
--- ---- of private contracts alone
-
--- this number of entries can have led to the object, for this line of the inventory
-pub record Fits (before : ℕ) (spec : ObjectSpec) (o : Object) : Type 0 where
-  pub state : IsObjectState spec o
-  pub number : o.number ≤ GREATEST_NUMBER + before
-  pub said : IsSaidObject o

@@ -1,5 +1,5 @@
 -- The conditions that hold of each world that entries of a journal lead to, for one inventory.
-use Rattle.std.specs.Prelude.{◌≡◌, ℕ, ◌+◌, ◌*◌, ◌<◌, ◌≤◌, List, length, Some, slice_get, All}
+use Rattle.std.specs.Prelude.{◌≡◌, ℕ, ◌+◌, ◌*◌, ◌<◌, ◌≤◌, List, length, Some, is_some, slice_get, All}
 use Rattle.cmd_types.specs.declared.limits.TheConstants.{GREATEST_NUMBER}
 use Rattle.mon_checks.specs.States.{IsWithin}
 use Rattle.cmd_journal.specs.declared.journal.TheConstants.{GREATEST_LIMIT}
@@ -9,13 +9,15 @@ use Rattle.mon_inventory.specs.Configuration.{Configuration}
 use Rattle.mon_engine.specs.declared.object.Object.{Object}
 use Rattle.mon_engine.specs.declared.notice.Notice.{Notice}
 use Rattle.mon_engine.specs.declared.state.TheConstants.{GREATEST_BEFORE}
-use Rattle.mon_engine.specs.Objects.{is_service}
+use Rattle.mon_engine.specs.Objects.{is_service, is_of_hard_problem}
 use Rattle.mon_engine.specs.World.{World}
 
 -- the state of an object with this line of the inventory
 pub record IsObjectState (spec : ObjectSpec) (o : Object) : Type 0 where
   pub within : IsWithin spec.max o.status
   pub kind : o.status.service ≡ is_service spec
+  -- the beginning of its hard problem is known, where it is in one
+  pub since : is_some o.moments.since ≡ is_of_hard_problem o.status
 
 -- the states of the inventory's objects after n entries
 pub record AreObjectStates (n : ℕ) (specs : List ObjectSpec) (os : List Object) : Type 0 where

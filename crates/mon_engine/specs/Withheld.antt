@@ -1,5 +1,5 @@
 -- What holds the PROBLEM notice of an object back: the first test of the notice that fails.
-use Rattle.std.specs.Prelude.{ℕ, ◌+◌, ◌==◌, ◌&&◌, not, nat_lt, Bool, true, if◌then◌else◌, List, [], ◌∷◌, length, Option, Some, None, slice_get}
+use Rattle.std.specs.Prelude.{ℕ, ◌+◌, ◌==◌, ◌&&◌, not, nat_lt, Bool, true, if◌then◌else◌, List, [], ◌∷◌, ◌++◌, length, Option, Some, None, slice_get}
 use Rattle.mon_inventory.specs.declared.records.ObjectSpec.{ObjectSpec}
 use Rattle.mon_inventory.specs.Configuration.{Configuration}
 use Rattle.mon_notify.specs.declared.facts.Facts.{Facts}
@@ -12,38 +12,17 @@ use Rattle.mon_engine.specs.declared.object.Object.{Object}
 use Rattle.mon_engine.specs.Objects.{is_service}
 use Rattle.mon_engine.specs.Notices.{facts, of_object, subject_of}
 use Rattle.mon_engine.specs.World.{World}
-
--- what holds a PROBLEM back, a name for each of its tests
-pub data Withheld : Type 0 where
-  -- notifications are off in the program
-  Program : Withheld
-  -- notifications are off for the object
-  Switch : Withheld
-  -- the object, or the host of a service, is in a downtime
-  Downtime : Withheld
-  -- the host of a service is not UP
-  Host : Withheld
-  -- the object's options lack the letter of its state
-  Letter : Withheld
-  -- the problem is acknowledged
-  Acknowledged : Withheld
-  -- the state is of type SOFT
-  Soft : Withheld
-  -- a delay of notices is to come
-  NotBefore : Withheld
-  -- a notice of this code went out, and the interval in force is 0 or not over
-  Interval : Withheld
-  -- the notice reaches no contact
-  Nobody : Withheld
+use Rattle.mon_engine.specs.declared.withheld.Withheld.{Withheld}
+use Rattle.mon_engine.specs.declared.withheld.Withheld.TheVariants.{Program, Switch, Downtime, Host, Letter, Acknowledged, Soft, NotBefore, Interval, Nobody}
 
 -- of these tests, each with what it holds back for where it fails, the first that fails
 abbrev pub first_failing : List (Bool × Withheld) → Option Withheld
 first_failing [] = None
 first_failing (test ∷ tests) = if test.0 then first_failing tests else Some test.1
 
--- the tests in their order; `someone` says whether the notice reaches a contact
-abbrev pub withheld_by : Facts → (someone : Bool) → Option Withheld
-withheld_by f someone = first_failing (
+-- the tests of a PROBLEM in their order, but for that of its contacts
+abbrev pub tests : Facts → List (Bool × Withheld)
+tests f =
     (f.program_on, Program)
     ∷ (f.object_on, Switch)
     ∷ ((f.depth == 0) && (f.host_depth == 0), Downtime)
@@ -53,8 +32,11 @@ withheld_by f someone = first_failing (
     ∷ (f.hard, Soft)
     ∷ (not (is_delayed f.not_before f.clock), NotBefore)
     ∷ (is_due f, Interval)
-    ∷ (someone, Nobody)
-    ∷ [])
+    ∷ []
+
+-- the first test that fails; `someone` says whether the notice reaches a contact
+abbrev pub withheld_by : Facts → (someone : Bool) → Option Withheld
+withheld_by f someone = first_failing (tests f ++ (someone, Nobody) ∷ [])
 
 -- the next PROBLEM notice of the object, to those whom its number and the letter of the state reach
 abbrev pub next_problem : Configuration → World → (object : ℕ) → ObjectSpec → Object → Notice

@@ -1,11 +1,13 @@
 -- The words and digits of the report.
-use Rattle.std.specs.Prelude.{ℕ, ◌==◌, Bool, if◌then◌else◌, List, codes}
+use Rattle.std.specs.Prelude.{ℕ, ◌==◌, Bool, if◌then◌else◌, List, [], Option, Some, None, codes}
 use Rattle.mon_engine.specs.declared.object.Acknowledgement.{Acknowledgement}
 use Rattle.mon_engine.specs.declared.object.Acknowledgement.TheVariants.{Unacknowledged, Normal, Sticky}
 use Rattle.mon_engine.specs.declared.outcome.Reason.{Reason}
 use Rattle.mon_engine.specs.declared.outcome.Reason.TheVariants as reasons
 use Rattle.mon_engine.specs.declared.notice.Word.{Word}
 use Rattle.mon_engine.specs.declared.notice.Word.TheVariants as words
+use Rattle.mon_engine.specs.declared.withheld.Withheld.{Withheld}
+use Rattle.mon_engine.specs.declared.withheld.Withheld.TheVariants as by
 
 -- the word for the code of a host
 abbrev pub host_state : ℕ → List ℕ
@@ -57,3 +59,17 @@ word_text words.DowntimeStart = codes "DOWNTIMESTART"
 word_text words.DowntimeEnd = codes "DOWNTIMEEND"
 word_text words.DowntimeCancelled = codes "DOWNTIMECANCELLED"
 word_text words.Custom = codes "CUSTOM"
+
+-- the word for what holds a PROBLEM back, or no bytes
+abbrev pub withheld_text : Option Withheld → List ℕ
+withheld_text None = []
+withheld_text (Some by.Program) = codes "program"
+withheld_text (Some by.Switch) = codes "switch"
+withheld_text (Some by.Downtime) = codes "downtime"
+withheld_text (Some by.Host) = codes "host"
+withheld_text (Some by.Letter) = codes "letter"
+withheld_text (Some by.Acknowledged) = codes "acknowledged"
+withheld_text (Some by.Soft) = codes "soft"
+withheld_text (Some by.NotBefore) = codes "not_before"
+withheld_text (Some by.Interval) = codes "interval"
+withheld_text (Some by.Nobody) = codes "nobody"

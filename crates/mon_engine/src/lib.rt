@@ -27,10 +27,12 @@ mod report;
 mod results;
 mod saved_laws;
 mod state;
+mod status;
 mod stop;
 mod switches;
 mod target;
 mod telling;
+mod withheld;
 mod words;
 
 pub use figures::Figures;
@@ -39,13 +41,13 @@ pub use laws::{
     downtimes_stand, entries_touch_nobody_else, law_of_the_clock, nothing_is_counted_at_first,
     rejected_entries_change_nothing, suppressed_problems_are_not_told,
 };
-pub use lines::{Field, put_line};
+pub use lines::{Field, put_fields, put_line, put_word};
 pub use monitor::Monitor;
 pub use notice_laws::{
     a_problem_is_told, a_recovery_is_told, no_problem_is_told_twice, only_who_may_be_told_is_told,
     silence_is_kept,
 };
-pub use object::{Acknowledgement, Object};
+pub use object::{Acknowledgement, Moments, Object};
 pub use objects::initial_objects;
 pub use outcome::{EngineFault, Outcome, Reason};
 pub use parts::{Misfit, Parts, ResumeFault};
@@ -54,4 +56,5 @@ pub use saved_laws::{a_world_of_entries_is_saved, going_on_changes_nothing};
 pub use state::GREATEST_BEFORE;
 pub use switches::Program;
 pub use telling::each_entry_is_told;
+pub use withheld::Withheld;
 pub use words::acknowledgement_text;

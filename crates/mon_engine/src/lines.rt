@@ -1,9 +1,9 @@
 //! The lines of the report: a word, then the fields, each after a semicolon, and a line feed. Each function appends to
 //! `out` and changes nothing else. If memory runs out, `put_line` leaves `out` unchanged; the other calls on a line may
 //! leave a beginning of their bytes in `out`.
-ghost use Rattle.std.specs.Prelude.{◌≡◌, ◌++◌, OnOk, OnErr};
+ghost use Rattle.std.specs.Prelude.{◌≡◌, ◌++◌, OnOk, OnErr, length, take};
 ghost use Rattle.cmd_types.specs.Growth.{Grows};
-ghost use Rattle.mon_engine.specs.Report.{line, fields_text};
+ghost use Rattle.mon_engine.specs.Report.{line, fields_text, optional};
 ghost use Rattle.mon_engine.specs.Fields.{shown, texts};
 
 use cmd_types::Memory;
@@ -19,7 +19,19 @@ pub enum Field<'a> {
     Flag(bool),
 }
 
-impl Field<'_> {
+impl<'a> Field<'a> {
+    /// The field of an optional number; empty for `None`.
+    ///
+    /// See the example of [`put_line`].
+    pub fn optional(number: Option<u64>) -> Field<'a>
+        ensures { shown result ≡ optional number }
+    {
+        match number {
+            None => Field::Bytes(b""),
+            Some(number) => Field::Number(number),
+        }
+    }
+
     /// Appends the text of the field, without a semicolon. If memory runs out, `out` is unchanged.
     fn put(&self, out: &mut Vec<u8>) -> Result<(), Memory>
         ensures ok { OnOk result (out.new.items ≡ out.old.items ++ shown self.now) }
@@ -41,9 +53,11 @@ impl Field<'_> {
 
 /// Appends a semicolon and the field's text for each field, in order. If memory runs out, a beginning of these bytes is
 /// in `out`.
+///
+/// See the example of [`put_line`].
 pub fn put_fields(out: &mut Vec<u8>, fields: &[Field<'_>]) -> Result<(), Memory>
     ensures ok { OnOk result (out.new.items ≡ out.old.items ++ fields_text (texts fields.now)) }
-    ensures grown { Grows out.old.items out.new.items }
+    ensures grown { take (length out.old.items) out.new.items ≡ out.old.items }
 {
     for field in fields {
         out.push(b';')?;
@@ -54,9 +68,11 @@ pub fn put_fields(out: &mut Vec<u8>, fields: &[Field<'_>]) -> Result<(), Memory>
 
 /// Appends the word, and then each field with a semicolon before it, without a line feed. If memory runs out, a
 /// beginning of these bytes is in `out`.
+///
+/// See the example of [`put_line`].
 pub fn put_word(out: &mut Vec<u8>, word: &[u8], fields: &[Field<'_>]) -> Result<(), Memory>
     ensures ok { OnOk result (out.new.items ≡ out.old.items ++ word.now ++ fields_text (texts fields.now)) }
-    ensures grown { Grows out.old.items out.new.items }
+    ensures grown { take (length out.old.items) out.new.items ≡ out.old.items }
 {
     out.extend_from_slice(word)?;
     put_fields(out, fields)

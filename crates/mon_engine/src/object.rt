@@ -55,6 +55,19 @@ pub enum Acknowledgement {
     Sticky,
 }
 
+/// When an object was checked last, and since when it is as it is (profile). Each moment is a monitor's clock, in seconds.
+///
+/// See the example of [`Object`].
+#[derive(Clone, Copy, Debug, PartialEq, Eq)]
+pub struct Moments {
+    /// The moment of the last accepted check result; `None` before the first.
+    pub checked: Option<u64>,
+    /// The moment of the last change of the code; 0 before the first.
+    pub changed: u64,
+    /// The moment at which the object came into the hard problem that it is in; `None` where it is in none.
+    pub since: Option<u64>,
+}
+
 /// The state of a host or a service, as check results and commands have made it.
 ///
 /// ```
@@ -66,10 +79,12 @@ pub enum Acknowledgement {
 /// };
 /// assert!(rt; matches!(web.acknowledgement, Acknowledgement::Unacknowledged));
 /// assert_eq!(rt; (web.number, web.last), (0, None));
+/// assert_eq!(rt; web.moments.since, None);
 /// ```
 #[derive(Drop)]
 pub struct Object {
     pub status: Status,
+    pub moments: Moments,
     /// The output of the last check result; empty before the first.
     pub output: Text,
     pub acknowledgement: Acknowledgement,

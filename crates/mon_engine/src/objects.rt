@@ -9,7 +9,7 @@ ghost use Rattle.mon_engine.specs.Sound.{AreObjectStates};
 ghost use Rattle.mon_engine.specs.Figures.{is_problem, has_acknowledgement};
 
 use crate::acknowledgements::is_acknowledged;
-use crate::object::{Acknowledgement, Object};
+use crate::object::{Acknowledgement, Moments, Object};
 use crate::results::{Check, Checked, take_result};
 use cmd_types::{Membership, Memory, Text, recounted};
 use mon_checks::Status;
@@ -178,7 +178,7 @@ impl Objects {
     pub fn take(&mut self, object: u16, check: Check) -> Checked
         requires object { object < length self.old }
         requires can_take { (o : Object) → slice_get self.old object ≡ Some o → CanTake check.code check.max o }
-        ensures taken { self.new ≡ changed_at self.old object (object_after check.code check.output check.host_up check.soft_hosts check.max) }
+        ensures taken { self.new ≡ changed_at self.old object (object_after check.clock check.code check.output check.host_up check.soft_hosts check.max) }
         ensures checked { (o : Object) → slice_get self.old object ≡ Some o → result ≡ checked_as o check.code }
     {
         let known = &mut self.list[object as usize];
@@ -243,6 +243,11 @@ fn initial_object(alloc: Global, spec: &ObjectSpec) -> Object
 {
     Object {
         status: Status::first(spec.service.is_some()),
+        moments: Moments {
+            checked: None,
+            changed: 0,
+            since: None,
+        },
         output: Text::new(Vec::new(alloc)),
         acknowledgement: Acknowledgement::Unacknowledged,
         number: 0,

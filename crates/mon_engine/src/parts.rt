@@ -1,16 +1,19 @@
-//! The parts of a monitor: its state, field by field, for writing it and reading it back; and the test whether entries
-//! can have led to them. Nothing is changed and no memory is taken here.
-ghost use Rattle.std.specs.Prelude.{◌≡◌, ◌↔◌, ◌+◌, ◌<◌, ◌≤◌, ◌*◌, All, length, IsTrue, IfSome, MatchOption};
+//! The parts of a monitor: its state, field by field, for writing it and reading it back; and the test whether they fit
+//! an inventory. Nothing is changed and no memory is taken here.
+ghost use Rattle.std.specs.Prelude.{◌≡◌, ◌↔◌, ℕ, ◌+◌, ◌<◌, ◌≤◌, ◌*◌, All, length, IsTrue, IfSome, MatchOption};
 ghost use Rattle.cmd_types.specs.declared.limits.TheConstants.{GREATEST_NUMBER};
 ghost use Rattle.mon_inventory.specs.declared.limits.TheConstants.{MOST_OBJECTS};
 ghost use Rattle.mon_engine.specs.declared.state.TheConstants.{GREATEST_BEFORE};
 ghost use Rattle.mon_inventory.specs.Facts.{IsInventory};
 ghost use Rattle.mon_checks.specs.States.{IsCodeOf};
+ghost use Rattle.mon_notes.specs.Comments.{IsCommentList};
+ghost use Rattle.mon_downtime.specs.Records.{AreRecords};
 ghost use Rattle.mon_engine.specs.declared.parts.ResumeFault.TheVariants.{Memory};
 ghost use Rattle.mon_engine.specs.Sound.{AreObjectStates, IsObjectState};
-ghost use Rattle.mon_engine.specs.Saved.{IsSaid, IsSaidObject, IsSaidComment, IsSaidDowntime, IsSaved, Fits};
+ghost use Rattle.mon_engine.specs.Saved.{IsSaid, AreMoments, IsSaidObject, IsSaidComment, IsSaidDowntime, IsSaved, Fits};
+ghost use Rattle.mon_engine.specs.Misfits.{ObjectFits, CommentFits, DowntimeFits, IsFirstMisfit};
 
-use crate::object::Object;
+use crate::object::{Moments, Object};
 use crate::state::GREATEST_BEFORE;
 use crate::switches::Program;
 use cmd_types::{GREATEST_NUMBER, Memory, Text, lacks};
@@ -85,15 +88,18 @@ impl Model for Parts {
     } };
 }
 
-/// The first part to which entries of this inventory cannot have led. A number is the index of the object, comment or
-/// downtime in its list, from 0 (profile).
+/// The first part that does not fit the inventory, in the order of these variants and in a list by index. A number is
+/// the index of the object, comment or downtime in its list, from 0 (profile).
+///
+/// A part fits if it passes a test that each part passes after at most [`GREATEST_BEFORE`] entries: of the ranges of its
+/// numbers, the order of its ids, its count, and its texts. Parts that fit are not always ones to which entries can lead.
 ///
 /// See the example of [`ResumeFault`].
 #[derive(Clone, Copy, Debug, PartialEq, Eq)]
 pub enum Misfit {
     Clock,
     Before,
-    /// The index of an object, or the length of the list where the inventory has another number of objects.
+    /// The object at this index does not fit, is missing, or is not in the inventory.
     Object(usize),
     Contacts,
     LastComment,
@@ -121,6 +127,13 @@ fn is_moment(moment: Option<u64>) -> bool
     }
 }
 
+/// Whether the moments of an object are at most `GREATEST_NUMBER`.
+fn are_moments(moments: Moments) -> bool
+    ensures { IsTrue result ↔ AreMoments moments }
+{
+    is_moment(moments.checked) && moments.changed <= GREATEST_NUMBER && is_moment(moments.since)
+}
+
 /// Whether a code is below 4; true for `None`.
 fn is_code(code: Option<u8>) -> bool
     ensures { IsTrue result ↔ IfSome code (λ c. c < 4) }
@@ -132,7 +145,8 @@ fn is_code(code: Option<u8>) -> bool
 }
 
 /// Whether check results can give this status to an object with this line of the inventory: the code is one of its
-/// kind, the attempt is from 1 to `max`, and a soft state has not reached `max`.
+/// kind, the attempt is from 1 to `max`, a soft state has not reached `max`, and the beginning of a hard problem is there
+/// where the status is that of one.
 fn is_possible_status(spec: &ObjectSpec, object: &Object) -> bool
     ensures { IsTrue result ↔ (IsObjectState spec.now object.now × IsCodeOf object.now.status.service object.now.status.code) }
 {
@@ -143,9 +157,10 @@ fn is_possible_status(spec: &ObjectSpec, object: &Object) -> bool
         && 1 <= status.attempt
         && status.attempt <= spec.max
         && (status.hard || status.attempt < spec.max)
+        && object.moments.since.is_some() == (status.code != 0 && status.hard)
 }
 
-/// Whether an object with this line of the inventory can be in this state after `before` entries.
+/// Whether an object fits this line of the inventory after `before` entries.
 fn fits(spec: &ObjectSpec, before: u64, object: &Object) -> bool
     requires { before ≤ GREATEST_BEFORE }
     ensures { IsTrue result ↔ Fits before spec.now object.now }
@@ -155,25 +170,28 @@ fn fits(spec: &ObjectSpec, before: u64, object: &Object) -> bool
         && is_moment(object.last)
         && is_code(object.notified)
         && is_moment(object.not_before)
+        && are_moments(object.moments)
         && lacks(b'\n', object.output.as_bytes())
 }
 
-/// The index of the first object that does not fit, or the length of the list where the inventory has another number of
-/// objects; `None` where all fit.
+/// The index of the first object that does not fit, is missing, or is not in the inventory; `None` where there is none.
 fn misfit_of_objects(inventory: &Inventory, before: u64, objects: &[Object]) -> Option<usize>
     requires { before ≤ GREATEST_BEFORE }
-    ensures { MatchOption result
+    ensures all { MatchOption result
         (AreObjectStates before inventory.now.objects objects.now × All IsSaidObject objects.now)
         (λ _. AreObjectStates before inventory.now.objects objects.now → All IsSaidObject objects.now → ⊥) }
+    ensures at { IfSome result (λ place. ObjectFits before inventory.now.objects objects.now place → ⊥) }
+    ensures earlier { (k : ℕ) → IfSome result (λ place. k < place) → ObjectFits before inventory.now.objects objects.now k }
 {
     let specs = inventory.objects();
-    if objects.len() != specs.len() {
-        return Some(objects.len());
-    }
-    for place in 0..objects.len() {
+    let shorter = objects.len().min(specs.len());
+    for place in 0..shorter {
         if !fits(&specs[place], before, &objects[place]) {
             return Some(place);
         }
+    }
+    if objects.len() != specs.len() {
+        return Some(shorter);
     }
     None
 }
@@ -187,18 +205,24 @@ fn is_said_comment(objects: u16, comment: &Comment) -> bool
         && can_be_from_command(comment.author.as_text(), comment.text.as_text())
 }
 
-/// The index of the first comment that does not pass `is_said_comment`; `None` where all do.
-fn misfit_of_comments(objects: u16, comments: &[Comment]) -> Option<usize>
-    ensures { MatchOption result
-        (All (λ c. (c.object < objects) × IsSaidComment c) comments.now)
-        (λ _. All (λ c. (c.object < objects) × IsSaidComment c) comments.now → ⊥) }
+/// The index of the first comment that is misplaced or does not pass `is_said_comment`; `None` where there is none.
+fn misfit_of_comments(objects: u16, last_id: u64, comments: &[Comment]) -> Option<usize>
+    ensures all { MatchOption result
+        (IsCommentList (record { comments = comments.now; last_id = last_id })
+        × All (λ c. (c.object < objects) × IsSaidComment c) comments.now)
+        (λ _. IsCommentList (record { comments = comments.now; last_id = last_id })
+        → All (λ c. (c.object < objects) × IsSaidComment c) comments.now → ⊥) }
+    ensures at { IfSome result (λ place. CommentFits objects (record { comments = comments.now; last_id = last_id }) place → ⊥) }
+    ensures earlier { (k : ℕ) → IfSome result (λ place. k < place)
+        → CommentFits objects (record { comments = comments.now; last_id = last_id }) k }
 {
-    for place in 0..comments.len() {
+    let out_of_order = misplaced(comments, last_id);
+    for place in 0..out_of_order.unwrap_or(comments.len()) {
         if !is_said_comment(objects, &comments[place]) {
             return Some(place);
         }
     }
-    None
+    out_of_order
 }
 
 /// Whether a downtime's object is below `objects`, and a command can have carried its texts.
@@ -208,27 +232,32 @@ fn is_said_downtime(objects: u16, downtime: &Downtime) -> bool
     downtime.object < objects && can_be_from_command(&downtime.plan.author, &downtime.plan.text)
 }
 
-/// The index of the first downtime that does not pass `is_said_downtime`; `None` where all do.
+/// The index of the first downtime that is no record there or does not pass `is_said_downtime`; `None` where there is
+/// none.
 fn misfit_of_downtimes(objects: u16, downtimes: &[Downtime]) -> Option<usize>
-    ensures { MatchOption result
-        (All (λ d. (d.object < objects) × IsSaidDowntime d) downtimes.now)
-        (λ _. All (λ d. (d.object < objects) × IsSaidDowntime d) downtimes.now → ⊥) }
+    ensures all { MatchOption result
+        (AreRecords 0 downtimes.now × All (λ d. (d.object < objects) × IsSaidDowntime d) downtimes.now)
+        (λ _. AreRecords 0 downtimes.now → All (λ d. (d.object < objects) × IsSaidDowntime d) downtimes.now → ⊥) }
+    ensures at { IfSome result (λ place. DowntimeFits objects downtimes.now place → ⊥) }
+    ensures earlier { (k : ℕ) → IfSome result (λ place. k < place) → DowntimeFits objects downtimes.now k }
 {
-    for place in 0..downtimes.len() {
+    let no_record = unrecorded(downtimes);
+    for place in 0..no_record.unwrap_or(downtimes.len()) {
         if !is_said_downtime(objects, &downtimes[place]) {
             return Some(place);
         }
     }
-    None
+    no_record
 }
 
 impl Parts {
     /// Tests part by part, in the order of [`Misfit`], and returns the first part that does not fit this inventory;
-    /// `None` where entries can have led to all parts. Changes nothing and takes no memory.
+    /// `None` where all parts fit. Changes nothing and takes no memory.
     pub fn misfit(&self, inventory: &Inventory) -> Option<Misfit>
-        ensures { MatchOption result
+        ensures saved { MatchOption result
             (IsSaved inventory.now self.now)
             (λ _. IsSaved inventory.now self.now → ⊥) }
+        ensures first { IfSome result (λ misfit. IsFirstMisfit inventory.now self.now misfit) }
     {
         let count = inventory.object_count();
         if self.clock > GREATEST_NUMBER {
@@ -246,17 +275,11 @@ impl Parts {
         if self.last_comment > self.before {
             return Some(Misfit::LastComment);
         }
-        if let Some(place) = misplaced(&self.comments, self.last_comment) {
-            return Some(Misfit::Comment(place));
-        }
-        if let Some(place) = misfit_of_comments(count, &self.comments) {
+        if let Some(place) = misfit_of_comments(count, self.last_comment, &self.comments) {
             return Some(Misfit::Comment(place));
         }
         if self.downtimes.len() as u64 > MOST_OBJECTS as u64 * self.before {
             return Some(Misfit::Downtimes);
-        }
-        if let Some(place) = unrecorded(&self.downtimes) {
-            return Some(Misfit::Downtime(place));
         }
         misfit_of_downtimes(count, &self.downtimes).map(Misfit::Downtime)
     }

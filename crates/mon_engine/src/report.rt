@@ -179,7 +179,7 @@ fn put_rejection(out: &mut Vec<u8>, rejection: &Rejection) -> Result<(), Memory>
 
 /// Appends the line of the object at the index `object`.
 #[tactic(auto, unfolding(crate::specs::Report::object_line))]
-fn put_object_at(
+pub fn put_object_at(
     out: &mut Vec<u8>,
     inventory: &Inventory,
     objects: &[Object],
@@ -299,7 +299,7 @@ impl State {
     }
 
     /// Appends the lines of the lists: comments, downtimes that are not over, rejections, notices.
-    fn put_lists(
+    pub fn put_lists(
         &self,
         alloc: Global,
         inventory: &Inventory,

@@ -5,7 +5,7 @@ ghost use Rattle.std.specs.Prelude.{◌≡◌, ◌<◌, OnOk, length, Some, if�
 ghost use Rattle.mon_checks.specs.States.{IsWithin};
 ghost use Rattle.mon_inventory.specs.Facts.{IsInventory};
 ghost use Rattle.mon_notes.specs.Comments.{without_acknowledged};
-ghost use Rattle.mon_engine.specs.Objects.{acknowledgement_after, object_after, host_is_up};
+ghost use Rattle.mon_engine.specs.Objects.{acknowledgement_after, is_of_hard_problem, moments_after, object_after, host_is_up};
 ghost use Rattle.mon_engine.specs.Results.{is_taken, checked_as, CanTake, is_hard_problem, with_started, after_check_result, IsCodeAt};
 ghost use Rattle.mon_engine.specs.Sound.{IsWorld, IsTimely};
 ghost use Rattle.mon_engine.specs.Stops.{Acts};
@@ -13,13 +13,13 @@ ghost use Rattle.mon_engine.specs.Stops.{Acts};
 use crate::acknowledgements::is_acknowledged;
 use crate::notice::Word;
 use crate::notices::DowntimeTurn;
-use crate::object::{Acknowledgement, Kind, Object};
+use crate::object::{Acknowledgement, Kind, Moments, Object};
 use crate::outcome::Reason;
 use crate::state::State;
 use crate::stop::ActStop;
 use crate::switches::{Program, accepts};
 use cmd_types::{Memory, Text};
-use mon_checks::{Change, after_result};
+use mon_checks::{Change, Status, after_result};
 use mon_downtime::all_that_wait_start;
 use mon_inventory::{Inventory, ObjectSpec};
 use mon_notes::Notes;
@@ -53,6 +53,8 @@ pub struct Checked {
 /// A check result, with the other facts that decide on the object's state after it.
 #[derive(Drop)]
 pub struct Check {
+    /// The monitor's clock, in seconds.
+    pub clock: u64,
     pub code: u8,
     pub output: Text,
     pub host_up: bool,
@@ -62,15 +64,42 @@ pub struct Check {
     pub soft_hosts: bool,
 }
 
-/// Applies a check result to the object: its status, output and acknowledgement change, and a change of the code
-/// removes a delay of notices. The object's switches and its notification number are unchanged. Returns the change.
+/// Whether a status is that of a hard problem: its code is not 0, and its type is hard.
+fn is_of_hard_problem(status: Status) -> bool
+    ensures { result ≡ is_of_hard_problem status }
+{
+    status.code != 0 && status.hard
+}
+
+/// The moments of an object after a check result at the second `clock` that took its status from `before` to `after`.
+fn moments_after(clock: u64, before: Status, after: Status, moments: Moments) -> Moments
+    ensures { result ≡ moments_after clock after.code before after moments }
+{
+    Moments {
+        checked: Some(clock),
+        changed: if before.code != after.code {
+            clock
+        } else {
+            moments.changed
+        },
+        since: match (is_of_hard_problem(before), is_of_hard_problem(after)) {
+            (_, false) => None,
+            (true, true) => moments.since,
+            (false, true) => Some(clock),
+        },
+    }
+}
+
+/// Applies a check result to the object: its status, moments, output and acknowledgement change, and a change of the
+/// code removes a delay of notices. The object's switches and its notification number are unchanged. Returns the change.
 pub fn take_result(object: &mut Object, check: Check) -> Checked
     requires { CanTake check.code check.max object.old }
-    ensures object { object.new ≡ object_after check.code check.output check.host_up check.soft_hosts check.max object.old }
+    ensures object { object.new ≡ object_after check.clock check.code check.output check.host_up check.soft_hosts check.max object.old }
     ensures checked { result ≡ checked_as object.old check.code }
     ensures within { IsWithin check.max object.new.status }
 {
     let Check {
+        clock,
         code,
         output,
         host_up,
@@ -80,6 +109,7 @@ pub fn take_result(object: &mut Object, check: Check) -> Checked
     let (status, change) = after_result(&object.status, code, host_up, max, soft_hosts);
     let before = object.acknowledgement;
     let after = acknowledgement_after(before, change);
+    object.moments = moments_after(clock, object.status, status, object.moments);
     object.status = status;
     object.output = output;
     object.acknowledgement = after;
@@ -112,7 +142,7 @@ fn is_taken(program: Program, spec: &ObjectSpec, object: &Object) -> bool
 fn is_hard_problem(object: &Object) -> bool
     ensures { result ≡ is_hard_problem (Some object.now) }
 {
-    object.status.code != 0 && object.status.hard
+    is_of_hard_problem(object.status)
 }
 
 /// Removes the comments of the object's acknowledgements that are not persistent, where `unacknowledges` is true; else
@@ -194,6 +224,7 @@ impl State {
             return Err(ActStop::Rejected(Reason::PassiveOff));
         }
         let check = Check {
+            clock: self.clock,
             code,
             output: output.copy(alloc)?,
             host_up: host_is_up(self.objects.as_slice(), spec),

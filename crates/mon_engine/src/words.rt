@@ -1,9 +1,10 @@
 //! The words of the report for states, acknowledgements, comments and notices. Nothing here takes memory.
 ghost use Rattle.std.specs.Prelude.{◌≡◌};
-ghost use Rattle.mon_engine.specs.Words.{state_text, type_text, acknowledgement_text, kind_text, word_text};
+ghost use Rattle.mon_engine.specs.Words.{state_text, type_text, acknowledgement_text, kind_text, word_text, withheld_text};
 
 use crate::notice::Word;
 use crate::object::Acknowledgement;
+use crate::withheld::Withheld;
 
 /// The word of the report for the code of a host or, where `service` is true, of a service (State Types).
 pub fn state_text(service: bool, code: u8) -> &'static [u8]
@@ -59,5 +60,24 @@ pub fn word_text(word: Word) -> &'static [u8]
         Word::DowntimeEnd => b"DOWNTIMEEND",
         Word::DowntimeCancelled => b"DOWNTIMECANCELLED",
         Word::Custom => b"CUSTOM",
+    }
+}
+
+/// The word of the status for what holds a PROBLEM notice back; empty for `None`.
+pub fn withheld_text(withheld: Option<Withheld>) -> &'static [u8]
+    ensures { result.now ≡ withheld_text withheld }
+{
+    match withheld {
+        None => b"",
+        Some(Withheld::Program) => b"program",
+        Some(Withheld::Switch) => b"switch",
+        Some(Withheld::Downtime) => b"downtime",
+        Some(Withheld::Host) => b"host",
+        Some(Withheld::Letter) => b"letter",
+        Some(Withheld::Acknowledged) => b"acknowledged",
+        Some(Withheld::Soft) => b"soft",
+        Some(Withheld::NotBefore) => b"not_before",
+        Some(Withheld::Interval) => b"interval",
+        Some(Withheld::Nobody) => b"nobody",
     }
 }

@@ -1,10 +1,9 @@
 -- What stays listed.
-use Rattle.std.proofs.Common.{◌≡◌, ◌⊎◌, ℕ, zero, suc, ◌<◌, Bool, true, false, ◌||◌, ◌==◌, eqb, is_some, Some, List, [], ◌∷◌, ◌++◌, length, get_or, cond, not, filter, refl, ap, ◌∙◌, arith, inl, inr}
+use Rattle.std.proofs.Common.{◌≡◌, ◌⊎◌, ℕ, zero, suc, ◌<◌, Bool, true, false, ◌==◌, eqb, is_some, Some, List, [], ◌∷◌, ◌++◌, length, get_or, cond, not, filter, refl, ap, ◌∙◌, arith, inl, inr}
 use Rattle.std.proofs.Math.ListN.{set}
 use Rattle.std.proofs.lemmas.Bool.{eqb-true, eq-eqb}
 use Rattle.std.proofs.lemmas.Bool.Decides.{eqb_tells}
 use Rattle.std.proofs.lemmas.List.{get_or-set_same, get_or-set_other}
-use Rattle.std.proofs.lemmas.List.Folds.{list_any-append}
 use Rattle.std.proofs.lemmas.Map.Views.{any-filter_same}
 use Rattle.mon_notes.specs.declared.comment.Comment.{Comment}
 use Rattle.mon_notes.specs.Comments.{comment_of}
@@ -16,20 +15,6 @@ use Rattle.mon_notes.specs.Listed.{Listing, goes, has, ids_of, AreAmong, AreList
 pub keeps_those_there : (there : List Comment) (ids : List ℕ) → KeepsThere there ids (filter (λ id. is_some (comment_of there id)) ids)
 keeps_those_there there ids id is h =
     any-filter_same (λ x. x == id) (λ n. is_some (comment_of there n)) true (λ n same. ap (λ k. is_some (comment_of there k)) (eqb-true n id same) ∙ is) ids ∙ h
-
-either : (a b : Bool) → a ≡ true → (a || b) ≡ true
-either true b e = refl
-either false b e = absurd (cc)
-
-last : (a : Bool) → (a || true) ≡ true
-last true = refl
-last false = refl
-
-pub has_more : (ids : List ℕ) (n id : ℕ) → has ids id ≡ true → has (ids ++ n ∷ []) id ≡ true
-has_more ids n id h = list_any-append (λ x. x == id) ids (n ∷ []) ∙ either (has ids id) _ h
-
-pub has_last : (ids : List ℕ) (n : ℕ) → has (ids ++ n ∷ []) n ≡ true
-has_last ids n = list_any-append (λ x. x == n) ids (n ∷ []) ∙ ap (λ b. has ids n || (b || false)) (eq-eqb n n refl) ∙ last (has ids n)
 
 -- ---- all lists
 

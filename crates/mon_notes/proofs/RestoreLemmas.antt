@@ -1,9 +1,13 @@
 -- Comments that were there before: their ids are looked at one after another, and each is listed behind those before it.
-use Rattle.std.proofs.Common.{◌≡◌, ℕ, ◌+◌, ◌<◌, ◌≤◌, true, List, [], ◌∷◌, ◌++◌, length, take, drop, get_or, ap, sym, ◌∙◌, arith, zero, suc}
+use Rattle.std.proofs.Common.{◌≡◌, inl, inr, ℕ, ◌+◌, ◌<◌, ◌≤◌, true, List, [], ◌∷◌, ◌++◌, length, take, drop, get_or, Option, ap, sym, ◌∙◌, subst, arith, zero, suc}
 use Rattle.std.proofs.Math.Seq.{take-suc}
+use Rattle.std.proofs.lemmas.Bool.{cases_lt}
+use Rattle.std.proofs.lemmas.Option.{slice_get-get_or, slice_get_past}
+use Rattle.std.specs.Prelude.{IfSome}
+use Rattle.std.specs.Option.{option_map, unwrap_or}
 use Rattle.std.specs.List.{AllByRecursion}
 use Rattle.mon_notes.specs.declared.comment.Comment.{Comment}
-use Rattle.mon_notes.specs.Comments.{AreAscending, AreWithin}
+use Rattle.mon_notes.specs.Comments.{AreAscending, AreWithin, id_before, ComesAfter}
 use Rattle.mon_notes.specs.declared.comment.Group.{Group}
 use Rattle.mon_notes.specs.Listed.{Listing, goes, has, ids_of, AreListed}
 use Rattle.mon_notes.proofs.ListedLemmas.{listed_push}
@@ -38,6 +42,36 @@ within_end most low zero [] h = tt
 within_end most low (suc n) [] h = tt
 within_end most low zero (c ∷ cs) h = absurd (omega arith)
 within_end most low (suc n) (c ∷ cs) h = within_end most low n cs (omega arith)
+
+-- ---- each after the one before it
+
+pub each_more : (P : ℕ → Type 0) (i : ℕ) → P i → ((k : ℕ) → k < i → P k) → (k : ℕ) → k < i + 1 → P k
+each_more P i here all k l = elim (cases_lt k i) [
+  | inl low ↦ all k low
+  | inr high ↦ subst P (let same : i ≡ k = omega (arith, high, l) in same) here
+]
+
+-- what is said of a comment that is read
+abbrev IsAfter : (most : ℕ) → List Comment → ℕ → Option Comment → Type 0
+IsAfter most cs i o = IfSome o (λ c. (id_before cs i < c.id) × (c.id ≤ most))
+
+pub after_there : (most : ℕ) (cs : List Comment) (i : ℕ) (d : Comment) → i < length cs → ComesAfter most cs i → (id_before cs i < (get_or cs i d).id) × ((get_or cs i d).id ≤ most)
+after_there most cs i d h w = subst (IsAfter most cs i) (slice_get-get_or cs i d h) w
+
+pub there_after : (most : ℕ) (cs : List Comment) (i : ℕ) (d : Comment) → i < length cs → (id_before cs i < (get_or cs i d).id) × ((get_or cs i d).id ≤ most) → ComesAfter most cs i
+there_after most cs i d h w = subst (IsAfter most cs i) (sym (slice_get-get_or cs i d h)) w
+
+-- its id is the one before the next
+pub id_there : (cs : List Comment) (i : ℕ) (d : Comment) → i < length cs → (get_or cs i d).id ≡ id_before cs (i + 1)
+id_there cs i d h =
+    let next : suc i ≡ i + 1 = omega arith in
+    sym (ap (λ (o : Option Comment). unwrap_or (option_map (λ x. x.id) o) 0) (slice_get-get_or cs i d h)) ∙ ap (id_before cs) next
+
+pub all_after : (most : ℕ) (cs : List Comment) (n : ℕ) → length cs ≤ n → ((k : ℕ) → k < n → ComesAfter most cs k) → (k : ℕ) → ComesAfter most cs k
+all_after most cs n h all k = elim (cases_lt k n) [
+  | inl low ↦ all k low
+  | inr high ↦ subst (IsAfter most cs k) (sym (slice_get_past cs k (omega (arith, h, high)))) tt
+]
 
 -- ---- listed
 

@@ -1,5 +1,6 @@
 -- Comments, in order of their ids.
-use Rattle.std.specs.Prelude.{◌≡◌, ℕ, ◌+◌, ◌<◌, ◌≤◌, ◌==◌, ◌&&◌, not, Bool, List, [], ◌∷◌, ◌++◌, length, filter, find, Option, slice_index_or}
+use Rattle.std.specs.Prelude.{◌≡◌, ℕ, ◌+◌, ◌<◌, ◌≤◌, ◌==◌, ◌&&◌, not, Bool, List, [], ◌∷◌, ◌++◌, length, filter, find, Option, IfSome, slice_get, slice_index_or, zero, suc}
+use Rattle.std.specs.Option.{option_map, unwrap_or}
 use Rattle.std.specs.List.{AllByRecursion}
 use Rattle.mon_notes.specs.declared.comment.Comment.{Comment}
 
@@ -48,6 +49,15 @@ AreAscending low (c ∷ cs) = (low < c.id) × AreAscending c.id cs
 pub record IsCommentList (b : CommentList) : Type 0 where
   pub ascending : AreAscending 0 b.comments
   pub given : AllByRecursion (λ c. c.id ≤ b.last_id) b.comments
+
+-- the id of the comment before this index; 0 before the first
+abbrev pub id_before : List Comment → (place : ℕ) → ℕ
+id_before cs zero = 0
+id_before cs (suc place) = unwrap_or (option_map (λ c. c.id) (slice_get cs place)) 0
+
+-- the comment at this index, if there is one, comes after the one before it: its id is greater, and was assigned
+abbrev pub ComesAfter : (last_id : ℕ) → List Comment → (place : ℕ) → Type 0
+ComesAfter last_id cs place = IfSome (slice_get cs place) (λ c. (id_before cs place < c.id) × (c.id ≤ last_id))
 
 -- the comments stay in order, with one more comment and with fewer
 abbrev pub CommentsStayInOrder : Type 0

@@ -1,6 +1,6 @@
 //! Tests the order of the ids of comments that were saved.
-ghost use Rattle.std.specs.Prelude.{◌≡◌, MatchOption};
-ghost use Rattle.mon_notes.specs.Comments.{IsCommentList};
+ghost use Rattle.std.specs.Prelude.{◌≡◌, ℕ, ◌<◌, length, IfSome, MatchOption};
+ghost use Rattle.mon_notes.specs.Comments.{IsCommentList, ComesAfter};
 
 use crate::comment::Comment;
 
@@ -11,9 +11,13 @@ use crate::comment::Comment;
 /// assert_eq!(rt; misplaced(&[], 0), None);
 /// ```
 pub fn misplaced(comments: &[Comment], last_id: u64) -> Option<usize>
-    ensures { MatchOption result
+    ensures all { MatchOption result
         (IsCommentList (record { comments = comments.now; last_id = last_id }))
         (λ _. IsCommentList (record { comments = comments.now; last_id = last_id }) → ⊥) }
+    ensures within { IfSome result (λ place. place < length comments.now) }
+    ensures at { IfSome result (λ place. ComesAfter last_id comments.now place → ⊥) }
+    // At `None` this is said of each index.
+    ensures earlier { (k : ℕ) → IfSome result (λ place. k < place) → ComesAfter last_id comments.now k }
 {
     let mut low = 0;
     for place in 0..comments.len() {

@@ -14,7 +14,9 @@ pub fn is_open(facts: &Facts) -> bool
 }
 
 /// Whether a delay holds the notice back: the delay ends after the monitor's clock.
-fn is_delayed(facts: &Facts) -> bool
+///
+/// See the example of [`problem_viable`].
+pub fn is_delayed(facts: &Facts) -> bool
     ensures { result ≡ is_delayed facts.now.not_before facts.now.clock }
 {
     match facts.not_before {
@@ -25,7 +27,9 @@ fn is_delayed(facts: &Facts) -> bool
 
 /// Whether a PROBLEM notice is due: it is the first (`number` is 0), its code is not that of the last, or the interval
 /// is above 0 and has passed since the last.
-fn is_due(facts: &Facts) -> bool
+///
+/// See the example of [`problem_viable`].
+pub fn is_due(facts: &Facts) -> bool
     ensures { result ≡ is_due facts.now }
 {
     let other_state = match facts.notified {

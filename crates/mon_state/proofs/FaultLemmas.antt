@@ -4,7 +4,7 @@ use Rattle.mon_inventory.specs.Configuration.{Configuration}
 use Rattle.mon_state.specs.declared.fault.StateCause.{StateCause}
 use Rattle.mon_state.specs.declared.fault.StateCause.TheVariants.{BadLine, BadValue, NotAsWritten, UnknownVersion, Memory}
 use Rattle.mon_state.specs.declared.fault.StateFault.{StateFault}
-use Rattle.mon_state.specs.declared.version.StateVersion.TheVariants.{One}
+use Rattle.mon_state.specs.declared.version.StateVersion.{StateVersion}
 use Rattle.mon_state.specs.Reading.{Stuck, version_at, world_at}
 use Rattle.mon_state.specs.FileReading.{feeds_at}
 use Rattle.mon_state.specs.Cursors.{Fails}
@@ -20,10 +20,10 @@ stuck_is NotAsWritten last read fails = inr fails
 stuck_is UnknownVersion last read fails = absurd fails
 stuck_is Memory last read fails = inl refl
 
-pub field_fault : (inv : Configuration) (text behind read last : List ℕ) (f : StateFault) → version_at text ≡ Ok (One, behind) → read ≡ behind → Fails f.cause last (world_at inv read) → f.line ≡ line_of_rest text last → IsStateFault inv text f
-field_fault inv text behind read last f heading same fails line = elim (stuck_is f.cause last (world_at inv read) fails) [
-  | inl memory ↦ inl memory
-  | inr stuck ↦ inr (inr (inl (behind, last, heading, ap (world_at inv) (sym same) ∙ stuck, line)))
+pub field_fault : (version : StateVersion) (inv : Configuration) (text behind read last : List ℕ) (f : StateFault) → version_at text ≡ Ok (version, behind) → read ≡ behind → Fails f.cause last (world_at version inv read) → f.line ≡ line_of_rest text last → IsStateFault inv text f
+field_fault version inv text behind read last f heading same fails line = elim (stuck_is f.cause last (world_at version inv read) fails) [
+  | inl memory ↦ inl ((version, behind, heading), memory)
+  | inr stuck ↦ inr (inr (inl (version, behind, last, heading, ap (world_at version inv) (sym same) ∙ stuck, line)))
 ]
 
 pub feeds_fault : (text read last : List ℕ) (f : StateFault) → read ≡ text → Fails f.cause last (feeds_at read) → f.line ≡ line_of_rest text last → IsFeedsFault text f

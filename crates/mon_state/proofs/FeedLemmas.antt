@@ -8,11 +8,10 @@ use Rattle.std.proofs.lemmas.Bool.{le-ltb, lt-ltb}
 use Rattle.std.proofs.lemmas.Option.{slice_get_within, slice_get-get_or, get_or_from_slice_get}
 use Rattle.cmd_types.specs.declared.limits.TheConstants.{GREATEST_NUMBER}
 use Rattle.cmd_types.specs.declared.entry.TheConstants.{MOST_SENDERS}
-use Rattle.mon_engine.specs.Report.{line, each_index}
+use Rattle.mon_engine.specs.Report.{line, each_index, optional}
 use Rattle.mon_state.specs.declared.feeds.KeptFeed.{KeptFeed}
 use Rattle.mon_state.specs.declared.fault.StateCause.{StateCause}
 use Rattle.mon_state.specs.declared.fault.StateCause.TheVariants.{BadLine, BadValue, NotAsWritten, UnknownVersion, Memory}
-use Rattle.mon_state.specs.State.{optional}
 use Rattle.mon_state.specs.Feeds.{Feeds, feed_lines_of, feed_lines, feeds_text, IsWritable, AreWritable}
 use Rattle.mon_state.specs.Reading.{Stuck, small_at, many_at}
 use Rattle.mon_state.specs.FileReading.{feed_at, next_feed, with_clock, feeds_at}

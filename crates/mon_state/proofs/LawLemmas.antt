@@ -11,10 +11,9 @@ use Rattle.mon_downtime.specs.declared.downtime.Fate.TheVariants.{Pending, Activ
 use Rattle.mon_inventory.specs.declared.records.ObjectSpec.{ObjectSpec}
 use Rattle.mon_engine.specs.declared.object.Acknowledgement.{Acknowledgement}
 use Rattle.mon_engine.specs.declared.object.Acknowledgement.TheVariants.{Unacknowledged, Normal, Sticky}
-use Rattle.mon_engine.specs.Report.{fields_text, line, flag, or_empty}
+use Rattle.mon_engine.specs.Report.{fields_text, line, flag, or_empty, optional}
 use Rattle.mon_engine.specs.Words.{acknowledgement_text}
-use Rattle.mon_state.specs.State.{optional}
-use Rattle.mon_state.specs.Reading.{Stuck, ◌>>=◌, field_at, expect_at, number_of, number_at, small_at, optional_of, optional_at, optional_code_at, flag_at, acknowledgement_at, fate_at, name_at, names_at, object_at, count_at}
+use Rattle.mon_state.specs.Reading.{Stuck, ◌>>=◌, field_at, word_at, expect_at, number_of, number_at, small_at, optional_of, optional_at, optional_code_at, flag_at, acknowledgement_at, active_at, inactive_at, fate_at, name_at, names_at, object_at, count_at}
 use Rattle.mon_state.proofs.NumberLemmas.{number_of_decimal, decimal_lacks}
 use Rattle.mon_state.proofs.CursorLemmas.{rest_after_is}
 
@@ -50,6 +49,15 @@ cut_at end (x ∷ field) rest h =
 pub field_gives : (end : ℕ) (field rest : List ℕ) → Lacks end field → field_at end (field ++ end ∷ rest) ≡ Ok (field, rest)
 unfolding field_at
 field_gives end field rest h = let cut = cut_at end field rest h in rw (cut.0, cut.1) refl
+
+-- no line feed ends such a word
+no_feed : (end : ℕ) (word : List ℕ) → Lacks end word → after end word ≡ None
+no_feed end [] h = refl
+no_feed end (x ∷ word) h = rw (ne_eqb x end h.0) (no_feed end word h.1)
+
+pub word_gives : (word rest : List ℕ) → Lacks 59 word → Lacks 10 word → word_at (word ++ 59 ∷ rest) ≡ Ok (word, rest)
+unfolding word_at
+word_gives word rest h line = rw (field_gives 59 word rest h, no_feed 10 word line) refl
 
 pub expect_gives : (expected rest : List ℕ) → expect_at expected (expected ++ rest) ≡ Ok rest
 unfolding expect_at
@@ -106,12 +114,19 @@ fate_text Pending rest = codes "pending" ++ 59 ∷ (59 ∷ (59 ∷ rest))
 fate_text (Active since until) rest = codes "active" ++ 59 ∷ (decimal since ++ 59 ∷ (decimal until ++ 59 ∷ rest))
 fate_text Over rest = codes "over" ++ 59 ∷ (59 ∷ (59 ∷ rest))
 
+inactive_gives : (f : Fate) (rest : List ℕ) → inactive_at f (59 ∷ (59 ∷ rest)) ≡ Ok (f, rest)
+unfolding inactive_at
+inactive_gives f rest = then _ (optional_gives None (59 ∷ rest) tt) (then _ (optional_gives None rest tt) refl)
+
+active_gives : (since until : ℕ) (rest : List ℕ) → since < 10 ^ 18 → until < 10 ^ 18 → active_at (decimal since ++ 59 ∷ (decimal until ++ 59 ∷ rest)) ≡ Ok (Active since until, rest)
+unfolding active_at
+active_gives since until rest small_since small_until = then _ (number_gives 59 since (decimal until ++ 59 ∷ rest) refl small_since) (then _ (number_gives 59 until rest refl small_until) refl)
+
 pub fate_gives : (f : Fate) (rest : List ℕ) → IsReadable f → fate_at (fate_text f rest) ≡ Ok (f, rest)
 unfolding fate_at
-fate_gives Pending rest h = rw (field_gives 59 (codes "pending") (59 ∷ (59 ∷ rest)) (search rules), optional_gives None (59 ∷ rest) tt, optional_gives None rest tt) refl
-fate_gives (Active since until) rest h =
-    rw (field_gives 59 (codes "active") (decimal since ++ 59 ∷ (decimal until ++ 59 ∷ rest)) (search rules), optional_gives (Some since) (decimal until ++ 59 ∷ rest) h.0, optional_gives (Some until) rest h.1) refl
-fate_gives Over rest h = rw (field_gives 59 (codes "over") (59 ∷ (59 ∷ rest)) (search rules), optional_gives None (59 ∷ rest) tt, optional_gives None rest tt) refl
+fate_gives Pending rest h = then _ (word_gives (codes "pending") (59 ∷ (59 ∷ rest)) (search rules) (search rules)) (inactive_gives Pending rest)
+fate_gives (Active since until) rest h = then _ (word_gives (codes "active") (decimal since ++ 59 ∷ (decimal until ++ 59 ∷ rest)) (search rules) (search rules)) (active_gives since until rest h.0 h.1)
+fate_gives Over rest h = then _ (word_gives (codes "over") (59 ∷ (59 ∷ rest)) (search rules) (search rules)) (inactive_gives Over rest)
 
 -- ---- names
 

@@ -9,6 +9,7 @@ pub mod TextLemmas
 pub mod AnswerLemmas
 pub mod PlaceLemmas
 pub mod FaultLemmas
+pub mod FitLemmas
 pub mod FeedLemmas
 pub mod WritableLemmas
 pub mod FileLemmas

@@ -7,6 +7,7 @@ use Rattle.std.proofs.Math.Seq.{take-suc}
 use Rattle.std.proofs.lemmas.List.{take_all, append-nil}
 use Rattle.std.proofs.lemmas.Option.{slice_get-get_or}
 use Rattle.cmd_types.specs.Bytes.{Lacks}
+use Rattle.mon_checks.specs.declared.status.Status.{Status}
 use Rattle.mon_notes.specs.declared.comment.Comment.{Comment}
 use Rattle.mon_downtime.specs.declared.downtime.Downtime.{Downtime}
 use Rattle.mon_downtime.specs.declared.downtime.Fate.{Fate}
@@ -15,27 +16,57 @@ use Rattle.mon_notify.specs.declared.contacts.ContactSwitch.{ContactSwitch}
 use Rattle.mon_inventory.specs.declared.records.ObjectSpec.{ObjectSpec}
 use Rattle.mon_inventory.specs.declared.records.ContactSpec.{ContactSpec}
 use Rattle.mon_engine.specs.declared.object.Object.{Object}
+use Rattle.mon_engine.specs.declared.object.Moments.{Moments}
 use Rattle.mon_engine.specs.declared.switches.Program.{Program}
 use Rattle.mon_engine.specs.Objects.{is_service}
 use Rattle.mon_engine.specs.Words.{acknowledgement_text}
-use Rattle.mon_engine.specs.Report.{flag, or_empty, program_line, contact_line_of}
+use Rattle.mon_engine.specs.Report.{flag, optional, or_empty, program_line, contact_line_of}
 use Rattle.mon_engine.specs.Saved.{IsSaid}
-use Rattle.mon_state.specs.State.{optional, fate_fields, known_fields, host_or_service_line, comment_line_of, comment_line, downtime_line_of, downtime_line}
-use Rattle.mon_state.specs.Reading.{Stuck, head_of, known_at, switch_at, program_at, said_at, comment_at, downtime_at, many_at}
-use Rattle.mon_state.proofs.LawLemmas.{chained, line_behind, then, field_gives, expect_gives, number_gives, small_gives, optional_gives, optional_code_gives, flag_gives, last_flag_gives, acknowledgement_gives, IsReadable, fate_text, fate_gives, name_gives, object_gives}
+use Rattle.mon_state.specs.State.{fate_fields, moment_fields, known_fields, host_or_service_line, comment_line_of, comment_line, downtime_line_of, downtime_line}
+use Rattle.mon_state.specs.declared.version.StateVersion.{StateVersion}
+use Rattle.mon_state.specs.declared.version.StateVersion.TheVariants.{One, Two}
+use Rattle.mon_state.specs.Upgrade.{upgraded}
+use Rattle.mon_state.specs.Reading.{Stuck, head_of, moments_at, known_at, switch_at, program_at, said_at, comment_at, downtime_at, many_at}
+use Rattle.mon_state.proofs.LawLemmas.{chained, line_behind, then, field_gives, word_gives, expect_gives, number_gives, small_gives, optional_gives, optional_code_gives, flag_gives, last_flag_gives, acknowledgement_gives, IsReadable, fate_text, fate_gives, name_gives, object_gives}
 
 -- ---- objects
 
--- what stands behind the names
-abbrev known_text : Object → List ℕ → List ℕ
-known_text o rest = decimal o.status.code ++ chained
-    (flag o.status.hard ∷ decimal o.status.attempt ∷ acknowledgement_text o.acknowledgement ∷ decimal o.number ∷ optional o.last ∷ optional o.notified ∷ optional o.not_before ∷ flag o.notify ∷ flag o.passive ∷ o.output ∷ []) rest
+-- the moments, each ended by a semicolon, where the version has them
+abbrev moment_text : StateVersion → Moments → List ℕ → List ℕ
+moment_text One m rest = rest
+moment_text Two m rest = optional m.checked ++ 59 ∷ (decimal m.changed ++ 59 ∷ (optional m.since ++ 59 ∷ rest))
 
-head_gives : (host : List ℕ) (service : Option (List ℕ)) (o : Object) (rest : List ℕ) → head_of host service (host_or_service_line host service o ++ rest) ≡ Ok (known_text o rest)
-head_gives host None o rest = rw (line_behind (codes "host") (host ∷ known_fields o) rest) (then _ (expect_gives (codes "host;") (host ++ 59 ∷ known_text o rest)) (name_gives host (known_text o rest)))
-head_gives host (Some name) o rest =
-    rw (line_behind (codes "service") (host ∷ name ∷ known_fields o) rest)
-    (then _ (expect_gives (codes "service;") (host ++ 59 ∷ (name ++ 59 ∷ known_text o rest))) (then _ (name_gives host (name ++ 59 ∷ known_text o rest)) (name_gives name (known_text o rest))))
+moments_behind : (version : StateVersion) (m : Moments) (field rest : List ℕ) → chained (moment_fields version m ++ field ∷ []) rest ≡ 59 ∷ moment_text version m (field ++ 10 ∷ rest)
+moments_behind One m field rest = refl
+moments_behind Two m field rest = refl
+
+-- what stands behind the names
+abbrev known_text : StateVersion → Object → List ℕ → List ℕ
+known_text version o rest =
+    decimal o.status.code ++ 59 ∷ (flag o.status.hard ++ 59 ∷ (decimal o.status.attempt ++ 59 ∷ (acknowledgement_text o.acknowledgement ++ 59 ∷ (decimal o.number ++ 59 ∷ (optional o.last ++ 59 ∷ (optional o.notified ++ 59 ∷ (optional o.not_before
+    ++ 59 ∷ (flag o.notify ++ 59 ∷ (flag o.passive ++ 59 ∷ moment_text version o.moments (o.output ++ 10 ∷ rest))))))))))
+
+head_gives : (version : StateVersion) (host : List ℕ) (service : Option (List ℕ)) (o : Object) (rest : List ℕ) → head_of host service (host_or_service_line version host service o ++ rest) ≡ Ok (known_text version o rest)
+head_gives version host None o rest =
+    rw (line_behind (codes "host") (host ∷ known_fields version o) rest, moments_behind version o.moments o.output rest)
+    (then _ (expect_gives (codes "host;") (host ++ 59 ∷ known_text version o rest)) (name_gives host (known_text version o rest)))
+head_gives version host (Some name) o rest =
+    rw (line_behind (codes "service") (host ∷ name ∷ known_fields version o) rest, moments_behind version o.moments o.output rest)
+    (then _ (expect_gives (codes "service;") (host ++ 59 ∷ (name ++ 59 ∷ known_text version o rest))) (then _ (name_gives host (name ++ 59 ∷ known_text version o rest)) (name_gives name (known_text version o rest))))
+
+pub record AreReadableMoments (m : Moments) : Type 0 where
+  pub checked : IfSome m.checked (λ n. n < 10 ^ 18)
+  pub changed : m.changed < 10 ^ 18
+  pub since : IfSome m.since (λ n. n < 10 ^ 18)
+
+-- the moments of version 1 are those of an upgrade
+abbrev pub AreOfVersion : StateVersion → (clock : ℕ) → Status → Moments → Type 0
+AreOfVersion version clock status m = version ≡ One → m ≡ upgraded clock status
+
+moments_give : (version : StateVersion) (clock : ℕ) (status : Status) (m : Moments) (rest : List ℕ) → AreReadableMoments m → AreOfVersion version clock status m → moments_at version clock status (moment_text version m rest) ≡ Ok (m, rest)
+unfolding moments_at
+moments_give One clock status m rest h is = ap (λ (x : Moments). Ok (x, rest)) (sym (is refl))
+moments_give Two clock status m rest h is = then _ (optional_gives m.checked _ h.checked) (then _ (number_gives 59 m.changed _ refl h.changed) (then _ (optional_gives m.since _ h.since) refl))
 
 pub record IsReadableObject (o : Object) : Type 0 where
   pub code : o.status.code ≤ 255
@@ -44,12 +75,14 @@ pub record IsReadableObject (o : Object) : Type 0 where
   pub last : IfSome o.last (λ n. n < 10 ^ 18)
   pub notified : IfSome o.notified (λ n. n < 4)
   pub not_before : IfSome o.not_before (λ n. n < 10 ^ 18)
+  pub moments : AreReadableMoments o.moments
   pub output : Lacks 10 o.output
 
-pub known_gives : (spec : ObjectSpec) (o : Object) (rest : List ℕ) → o.status.service ≡ is_service spec → IsReadableObject o → known_at spec (host_or_service_line spec.host spec.service o ++ rest) ≡ Ok (o, rest)
+pub known_gives : (version : StateVersion) (clock : ℕ) (spec : ObjectSpec) (o : Object) (rest : List ℕ) → o.status.service ≡ is_service spec → IsReadableObject o → AreOfVersion version clock o.status o.moments
+    → known_at version clock spec (host_or_service_line version spec.host spec.service o ++ rest) ≡ Ok (o, rest)
 unfolding known_at
-known_gives spec o rest kind h =
-    then _ (head_gives spec.host spec.service o rest)
+known_gives version clock spec o rest kind h is =
+    then _ (head_gives version spec.host spec.service o rest)
     (then _ (small_gives 255 o.status.code _ h.code (let small = h.code in omega arith))
     (then _ (flag_gives o.status.hard _)
     (then _ (number_gives 59 o.status.attempt _ refl h.attempt)
@@ -60,8 +93,9 @@ known_gives spec o rest kind h =
     (then _ (optional_gives o.not_before _ h.not_before)
     (then _ (flag_gives o.notify _)
     (then _ (flag_gives o.passive _)
+    (then _ (moments_give version clock (record o.status { service = is_service spec }) o.moments _ h.moments is)
     (then _ (field_gives 10 o.output rest h.output)
-    (ap (λ (b : Bool). Ok (record o { status = record o.status { service = b } }, rest)) (sym kind)))))))))))))
+    (ap (λ (b : Bool). Ok (record o { status = record o.status { service = b } }, rest)) (sym kind))))))))))))))
 
 -- ---- contacts, and the program
 
@@ -87,7 +121,7 @@ program_gives p rest =
 
 said_gives : (author text rest : List ℕ) → IsSaid author text → said_at (author ++ 59 ∷ (text ++ 10 ∷ rest)) ≡ Ok (record { author = author; text = text }, rest)
 unfolding said_at
-said_gives author text rest h = then _ (field_gives 59 author (text ++ 10 ∷ rest) h.no_semicolon) (then _ (field_gives 10 text rest h.text_line) refl)
+said_gives author text rest h = then _ (word_gives author (text ++ 10 ∷ rest) h.no_semicolon h.author_line) (then _ (field_gives 10 text rest h.text_line) refl)
 
 -- its object is one of so many, and its numbers can be read
 pub record IsReadableComment (count : ℕ) (c : Comment) : Type 0 where

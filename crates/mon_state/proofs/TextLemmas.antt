@@ -1,12 +1,12 @@
 -- A text grows by one part after another, and lines follow one another, for the items of a list or for each number.
-use Rattle.std.proofs.Common.{◌≡◌, ℕ, ◌+◌, ◌<◌, ◌≤◌, List, [], ◌++◌, length, get_or, take, drop, map, Result, Ok, Err, ap, sym, ◌∙◌, append_assoc, append-nil, arith}
+use Rattle.std.proofs.Common.{◌≡◌, ℕ, ◌+◌, ◌<◌, ◌≤◌, List, [], ◌∷◌, ◌++◌, length, get_or, take, drop, map, Result, Ok, Err, refl, ap, sym, ◌∙◌, append_assoc, append-nil, arith}
 use Rattle.std.specs.Prelude.{OnOk}
 use Rattle.std.specs.List.{flat_map, range_with_len}
 use Rattle.std.proofs.lemmas.List.{flat_map_more, at_drop_more, at_drop_all, take-take, length-take}
 use Rattle.std.proofs.lemmas.List.FromFn.{map-range_with_len_more}
 use Rattle.std.proofs.lemmas.List.Folds.{flat_map-map}
 use Rattle.cmd_types.specs.Growth.{Grows}
-use Rattle.mon_engine.specs.Report.{each_index}
+use Rattle.mon_engine.specs.Report.{each_index, fields_text}
 
 -- ---- a text that grows
 
@@ -57,3 +57,20 @@ all_put out m1 m2 m3 m4 new a b c d e f g h i j k one two three four five =
     five
     ∙ ap (λ (t : List ℕ). t ++ i ++ j ++ k) (four ∙ ap (λ (t : List ℕ). t ++ g ++ h) (three ∙ ap (λ (t : List ℕ). t ++ f) (two ∙ ap (λ (t : List ℕ). t ++ e) one)))
     ∙ simp append_assoc
+
+-- ---- fields
+
+fields_joined : (a b : List (List ℕ)) → fields_text (a ++ b) ≡ fields_text a ++ fields_text b
+fields_joined [] b = refl
+fields_joined (field ∷ a) b = ap (λ (t : List ℕ). 59 ∷ field ++ t) (fields_joined a b) ∙ ap (λ (t : List ℕ). 59 ∷ t) (sym (append_assoc field (fields_text a) (fields_text b)))
+
+-- the fields of a line in four parts, and its line feed
+pub fields_put : (out m1 m2 m3 m4 new : List ℕ) (a b c d : List (List ℕ)) → m1 ≡ out ++ fields_text a → m2 ≡ m1 ++ fields_text b → m3 ≡ m2 ++ fields_text c → m4 ≡ m3 ++ fields_text d → new ≡ m4 ++ 10 ∷ [] → new ≡ out ++ (fields_text (a ++ b ++ c ++ d) ++ 10 ∷ [])
+fields_put out m1 m2 m3 m4 new a b c d one two three four five =
+    let all : fields_text (a ++ b ++ c ++ d) ≡ fields_text a ++ fields_text b ++ fields_text c ++ fields_text d =
+    fields_joined (a ++ b ++ c) d ∙ ap (λ (t : List ℕ). t ++ fields_text d) (fields_joined (a ++ b) c ∙ ap (λ (t : List ℕ). t ++ fields_text c) (fields_joined a b)) in
+    let same : out ++ fields_text a ++ fields_text b ++ fields_text c ++ fields_text d ++ 10 ∷ [] ≡ out ++ ((fields_text a ++ fields_text b ++ fields_text c ++ fields_text d) ++ 10 ∷ []) = simp append_assoc in
+    five
+    ∙ ap (λ (t : List ℕ). t ++ 10 ∷ []) (four ∙ ap (λ (t : List ℕ). t ++ fields_text d) (three ∙ ap (λ (t : List ℕ). t ++ fields_text c) (two ∙ ap (λ (t : List ℕ). t ++ fields_text b) one)))
+    ∙ same
+    ∙ ap (λ (t : List ℕ). out ++ (t ++ 10 ∷ [])) (sym all)

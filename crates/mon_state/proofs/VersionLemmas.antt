@@ -1,5 +1,5 @@
 -- Which version the heading of a text names.
-use Rattle.std.proofs.Common.{◌≡◌, ◌≢◌, ℕ, Bool, true, false, eqb, if◌then◌else◌, List, [], ◌∷◌, ◌++◌, length, leb, Option, Some, None, Result, Ok, Err, refl, ap, sym, ◌∙◌, arith}
+use Rattle.std.proofs.Common.{◌≡◌, ◌≢◌, ℕ, ◌<◌, ◌^◌, Bool, true, false, eqb, if◌then◌else◌, List, [], ◌∷◌, ◌++◌, length, leb, Option, Some, None, Result, Ok, Err, refl, ap, sym, ◌∙◌, arith}
 use Rattle.std.specs.Prelude.{codes}
 use Rattle.std.specs.Fmt.{decimal}
 use Rattle.std.specs.Str.{all_ascii_digits}
@@ -10,7 +10,7 @@ use Rattle.mon_state.specs.declared.fault.StateCause.{StateCause}
 use Rattle.mon_state.specs.declared.fault.StateCause.TheVariants.{BadLine, UnknownVersion}
 use Rattle.mon_state.specs.declared.number.TheConstants.{MOST_DIGITS}
 use Rattle.mon_state.specs.declared.version.StateVersion.{StateVersion}
-use Rattle.mon_state.specs.declared.version.StateVersion.TheVariants.{One}
+use Rattle.mon_state.specs.declared.version.StateVersion.TheVariants.{One, Two}
 use Rattle.mon_state.specs.State.{heading_line}
 use Rattle.mon_state.specs.Version.{version_number, version_of, is_number, IsOfUnknownVersion}
 use Rattle.mon_state.specs.Reading.{Stuck, ◌>>=◌, ended, field_at, rest_after, found_or, expect_at, number_of, some_or, number_at, known_or, version_at}
@@ -27,14 +27,19 @@ next f is others = ap (λ r. r >>= f) is ∙ others
 version_found : (v : StateVersion) → version_of (version_number v) ≡ Some v
 unfolding version_of
 version_found One = refl
+version_found Two = refl
 
-pub version_gives : (rest : List ℕ) → version_at (heading_line One ++ rest) ≡ Ok (One, rest)
+few_versions : (v : StateVersion) → version_number v < 10 ^ 18
+few_versions One = omega arith
+few_versions Two = omega arith
+
+pub version_gives : (v : StateVersion) (rest : List ℕ) → version_at (heading_line v ++ rest) ≡ Ok (v, rest)
 unfolding version_at
-version_gives rest =
-    ap version_at (line_behind (codes "state") (decimal (version_number One) ∷ []) rest)
-    ∙ next _ (expect_gives (codes "state;") (decimal (version_number One) ++ 10 ∷ rest))
-    (next _ (number_gives 10 (version_number One) rest refl (omega arith))
-    (rw (version_found One) refl))
+version_gives v rest =
+    ap version_at (line_behind (codes "state") (decimal (version_number v) ∷ []) rest)
+    ∙ next _ (expect_gives (codes "state;") (decimal (version_number v) ++ 10 ∷ rest))
+    (next _ (number_gives 10 (version_number v) rest refl (few_versions v))
+    (rw (version_found v) refl))
 
 -- ---- a version that is not known
 
@@ -47,7 +52,7 @@ number_is word rest h = rw (field_gives 10 word rest (digits_lack 10 word refl (
 
 no_version : (n : ℕ) → ((v : StateVersion) → n ≢ version_number v) → version_of n ≡ None
 unfolding version_of
-no_version n none = rw (ne_eqb (version_number One) n (λ e. none One (sym e))) refl
+no_version n none = rw (ne_eqb (version_number One) n (λ e. none One (sym e)), ne_eqb (version_number Two) n (λ e. none Two (sym e))) refl
 
 pub unknown_is : (text : List ℕ) → IsOfUnknownVersion text → (rest : List ℕ) × (version_at text ≡ Err (UnknownVersion, rest))
 unfolding version_at

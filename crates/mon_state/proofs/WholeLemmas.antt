@@ -1,11 +1,11 @@
 -- What is written of a saved world is read as the world with which a monitor goes on.
-use Rattle.std.proofs.Common.{◌≡◌, ℕ, ◌+◌, ◌<◌, ◌≤◌, ◌^◌, Bool, true, false, List, [], ◌∷◌, ◌++◌, length, take, get_or, Option, Some, None, Result, Ok, Err, slice_get, append_assoc, refl, ap, sym, ◌∙◌, subst, arith}
+use Rattle.std.proofs.Common.{◌≡◌, ℕ, ◌+◌, ◌<◌, ◌≤◌, ◌^◌, Bool, true, false, List, [], ◌∷◌, ◌++◌, length, take, get_or, Option, Some, None, option_map, Result, Ok, Err, map, slice_get, append_assoc, refl, ap, sym, ◌∙◌, subst, arith}
 use Rattle.std.specs.Prelude.{codes, IfSome, All}
 use Rattle.std.specs.Fmt.{decimal}
 use Rattle.std.specs.List.{flat_map, AllByRecursion}
-use Rattle.std.proofs.lemmas.List.{length-take}
+use Rattle.std.proofs.lemmas.List.{length-take, map-append}
 use Rattle.std.proofs.lemmas.List.Elements.{recursion_from_All}
-use Rattle.std.proofs.lemmas.Option.{slice_get-get_or, slice_get_within, get_or_from_slice_get}
+use Rattle.std.proofs.lemmas.Option.{same_Some, slice_get-map, slice_get-get_or, slice_get_within, get_or_from_slice_get}
 use Rattle.cmd_types.specs.declared.limits.TheConstants.{GREATEST_NUMBER}
 use Rattle.mon_checks.specs.States.{IsCodeOf}
 use Rattle.mon_notes.specs.declared.comment.Comment.{Comment}
@@ -26,13 +26,14 @@ use Rattle.mon_engine.specs.Report.{line, contact_line, contact_line_of, clock_l
 use Rattle.mon_engine.specs.World.{World}
 use Rattle.mon_engine.specs.Sound.{ever, AreObjectStates}
 use Rattle.mon_engine.specs.Saved.{IsSaidObject, IsSaidComment, IsSaidDowntime, IsSaved, going_on}
-use Rattle.mon_state.specs.State.{heading_line, object_line, object_line_of, comment_line, downtime_line, entries_line, comments_line, downtimes_line, end_line, line_count, state_text}
+use Rattle.mon_state.specs.State.{heading_line, object_line, object_line_of, comment_line, downtime_line, entries_line, comments_line, downtimes_line, end_line, line_count, text_of}
 use Rattle.mon_state.specs.declared.version.StateVersion.{StateVersion}
 use Rattle.mon_state.specs.declared.version.StateVersion.TheVariants.{One}
+use Rattle.mon_state.specs.Upgrade.{upgraded, upgraded_object, upgrade}
 use Rattle.mon_state.specs.Reading.{Stuck, ◌>>=◌, expect_at, known_of, switch_of, next_known, next_switch, next_comment, next_downtime, version_at, world_at}
 use Rattle.mon_state.proofs.LawLemmas.{line_behind, then, expect_gives, number_gives, count_gives, IsReadable}
 use Rattle.mon_state.proofs.VersionLemmas.{version_gives}
-use Rattle.mon_state.proofs.LineLemmas.{IsReadableObject, known_gives, switch_gives, program_gives, IsReadableComment, comment_gives, IsReadableDowntime, downtime_gives, each_gives, placed_gives}
+use Rattle.mon_state.proofs.LineLemmas.{AreOfVersion, IsReadableObject, known_gives, switch_gives, program_gives, IsReadableComment, comment_gives, IsReadableDowntime, downtime_gives, each_gives, placed_gives}
 
 -- ---- what a saved world has can be read
 
@@ -60,6 +61,7 @@ readable_object inv n os k spec o sound few states said at here =
       last = small_moment o.last its.last;
       notified = its.notified;
       not_before = small_moment o.not_before its.not_before;
+      moments = record { checked = small_moment o.moments.checked its.moments.checked; changed = (let changed = its.moments.changed in omega arith); since = small_moment o.moments.since its.moments.since };
       output = its.output;
     }
 
@@ -107,15 +109,16 @@ readable_downtimes count n m (d ∷ ds) small few records known said =
 turn_of : {X : Type 0} (xs : List X) (k : ℕ) (x : X) → slice_get xs k ≡ Some x → length (take k xs) ≡ k
 turn_of xs k x at = length-take k xs ∙ (let low = slice_get_within xs k x at in omega arith)
 
-object_line_gives : (inv : Configuration) (n : ℕ) (os : List Object) → IsInventory inv → n ≤ GREATEST_NUMBER → AreObjectStates n inv.objects os → All IsSaidObject os
-    → (k : ℕ) (o : Object) (rest : List ℕ) → slice_get os k ≡ Some o → next_known inv.objects (take k os) (object_line inv.objects os k ++ rest) ≡ Ok (o, rest)
+object_line_gives : (version : StateVersion) (clock : ℕ) (inv : Configuration) (n : ℕ) (os : List Object) → IsInventory inv → n ≤ GREATEST_NUMBER → AreObjectStates n inv.objects os → All IsSaidObject os
+    → ((k : ℕ) (o : Object) → slice_get os k ≡ Some o → AreOfVersion version clock o.status o.moments)
+    → (k : ℕ) (o : Object) (rest : List ℕ) → slice_get os k ≡ Some o → next_known version clock inv.objects (take k os) (object_line version inv.objects os k ++ rest) ≡ Ok (o, rest)
 unfolding object_line
-object_line_gives inv n os sound few states said k o rest here =
-    ap (λ j. known_of (slice_get inv.objects j) (object_line_of (slice_get inv.objects k) (slice_get os k) ++ rest)) (turn_of os k o here)
-    ∙ ap (λ (x : Option Object). known_of (slice_get inv.objects k) (object_line_of (slice_get inv.objects k) x ++ rest)) here
-    ∙ with_line inv.objects (let low = slice_get_within os k o here in let long = states.as_many in omega arith) (λ spec at. known_gives spec o rest (states.each k spec o at here).kind (readable_object inv n os k spec o sound few states said at here))
+object_line_gives version clock inv n os sound few states said is k o rest here =
+    ap (λ j. known_of version clock (slice_get inv.objects j) (object_line_of version (slice_get inv.objects k) (slice_get os k) ++ rest)) (turn_of os k o here)
+    ∙ ap (λ (x : Option Object). known_of version clock (slice_get inv.objects k) (object_line_of version (slice_get inv.objects k) x ++ rest)) here
+    ∙ with_line inv.objects (let low = slice_get_within os k o here in let long = states.as_many in omega arith) (λ spec at. known_gives version clock spec o rest (states.each k spec o at here).kind (readable_object inv n os k spec o sound few states said at here) (is k o here))
   where
-    with_line : (specs : List ObjectSpec) → k < length specs → ((spec : ObjectSpec) → slice_get specs k ≡ Some spec → known_of (Some spec) (object_line_of (Some spec) (Some o) ++ rest) ≡ Ok (o, rest)) → known_of (slice_get specs k) (object_line_of (slice_get specs k) (Some o) ++ rest) ≡ Ok (o, rest)
+    with_line : (specs : List ObjectSpec) → k < length specs → ((spec : ObjectSpec) → slice_get specs k ≡ Some spec → known_of version clock (Some spec) (object_line_of version (Some spec) (Some o) ++ rest) ≡ Ok (o, rest)) → known_of version clock (slice_get specs k) (object_line_of version (slice_get specs k) (Some o) ++ rest) ≡ Ok (o, rest)
     with_line [] low f = absurd (omega arith)
     with_line (x ∷ specs) low f = let at = slice_get-get_or (x ∷ specs) k x low in rw at (f (get_or (x ∷ specs) k x) at)
 
@@ -146,29 +149,41 @@ comments_part inv w = flat_map (comment_line inv.objects) w.notes.comments ++ (d
 contacts_part : Configuration → World → List ℕ
 contacts_part inv w = each_index (contact_line inv.contacts w.contacts) (length inv.contacts) ++ (comments_line w.notes ++ comments_part inv w)
 
-objects_part : Configuration → World → List ℕ
-objects_part inv w = each_index (object_line inv.objects w.objects) (length inv.objects) ++ contacts_part inv w
+objects_part : StateVersion → Configuration → World → List ℕ
+objects_part version inv w = each_index (object_line version inv.objects w.objects) (length inv.objects) ++ contacts_part inv w
 
 joined : (a b c d e f g h i j k : List ℕ) → a ++ b ++ c ++ d ++ e ++ f ++ g ++ h ++ i ++ j ++ k ≡ a ++ (b ++ (c ++ (d ++ (e ++ (f ++ (g ++ (h ++ (i ++ (j ++ k)))))))))
 joined a b c d e f g h i j k = simp append_assoc
 
-in_parts : (inv : Configuration) (w : World) → state_text inv w ≡ heading_line One ++ (clock_line w.clock ++ (entries_line (ever w) ++ (program_line w.program ++ objects_part inv w)))
-unfolding state_text downtimes_part comments_part contacts_part objects_part
-in_parts inv w =
-    joined (heading_line One) (clock_line w.clock) (entries_line (ever w)) (program_line w.program) (each_index (object_line inv.objects w.objects) (length inv.objects)) (each_index (contact_line inv.contacts w.contacts) (length inv.contacts))
+in_parts : (version : StateVersion) (inv : Configuration) (w : World) → text_of version inv w ≡ heading_line version ++ (clock_line w.clock ++ (entries_line (ever w) ++ (program_line w.program ++ objects_part version inv w)))
+unfolding text_of downtimes_part comments_part contacts_part objects_part
+in_parts version inv w =
+    joined (heading_line version) (clock_line w.clock) (entries_line (ever w)) (program_line w.program) (each_index (object_line version inv.objects w.objects) (length inv.objects)) (each_index (contact_line inv.contacts w.contacts) (length inv.contacts))
     (comments_line w.notes) (flat_map (comment_line inv.objects) w.notes.comments) (downtimes_line w.downtimes) (flat_map (downtime_line inv.objects) w.downtimes) (end_line (line_count inv w))
 
 -- the world that a text spells, with its heading
 pub state_at : Configuration → List ℕ → Result World Stuck
-state_at inv text = version_at text >>= λ h. world_at inv h.1
+state_at inv text = version_at text >>= λ h. world_at h.0 inv h.1
 
-pub at_rest : (inv : Configuration) (text rest read : List ℕ) → version_at text ≡ Ok (One, rest) → read ≡ rest → state_at inv text ≡ world_at inv read
+pub at_rest : (version : StateVersion) (inv : Configuration) (text rest read : List ℕ) → version_at text ≡ Ok (version, rest) → read ≡ rest → state_at inv text ≡ world_at version inv read
 unfolding state_at
-at_rest inv text rest read heading same = ap (λ r. r >>= λ h. world_at inv h.1) heading ∙ ap (world_at inv) (sym same)
+at_rest version inv text rest read heading same = ap (λ r. r >>= λ h. world_at h.0 inv h.1) heading ∙ ap (world_at version inv) (sym same)
 
-pub world_gives : (inv : Configuration) (w : World) → IsInventory inv → IsSaved inv w → state_at inv (state_text inv w) ≡ Ok (going_on w)
+-- one more object with the moments of an upgrade
+pub upgraded_more : (clock : ℕ) (os : List Object) (o : Object) → map (upgraded_object clock) os ≡ os → upgraded_object clock o ≡ o → map (upgraded_object clock) (os ++ o ∷ []) ≡ os ++ o ∷ []
+upgraded_more clock os o all one = map-append (upgraded_object clock) os (o ∷ []) ∙ (λ i. all i ++ one i ∷ [])
+
+-- an object of a world that an upgrade makes has the moments of one
+of_upgrade : (w : World) (k : ℕ) (o : Object) → upgrade w ≡ w → slice_get w.objects k ≡ Some o → o.moments ≡ upgraded w.clock o.status
+unfolding upgrade
+of_upgrade w k o is at =
+    let there : Some (upgraded_object w.clock o) ≡ Some o =
+    sym (slice_get-map (upgraded_object w.clock) w.objects k ∙ ap (option_map (upgraded_object w.clock)) at) ∙ ap (λ (v : World). slice_get v.objects k) is ∙ at in
+    sym (ap (λ (x : Object). x.moments) (same_Some (upgraded_object w.clock o) o there))
+
+pub world_gives : (version : StateVersion) (inv : Configuration) (w : World) → IsInventory inv → IsSaved inv w → (version ≡ One → upgrade w ≡ w) → state_at inv (text_of version inv w) ≡ Ok (going_on w)
 unfolding state_at world_at downtimes_part comments_part contacts_part objects_part
-world_gives inv w sound h =
+world_gives version inv w sound h up =
     let world = h.world in
     let room = h.room in
     let clock = world.clock in
@@ -180,14 +195,14 @@ world_gives inv w sound h =
     let comments = few_comments 0 w.notes.last_id w.notes.comments (omega arith) h.notes.ascending h.notes.given in
     let downtimes = downtimes_line w.downtimes ++ downtimes_part inv w in
     let notes = comments_line w.notes ++ comments_part inv w in
-    let program = program_line w.program ++ objects_part inv w in
+    let program = program_line w.program ++ objects_part version inv w in
     let entries = entries_line (ever w) ++ program in
-    ap (state_at inv) (in_parts inv w)
-    ∙ then _ (version_gives (clock_line w.clock ++ entries))
+    ap (state_at inv) (in_parts version inv w)
+    ∙ then _ (version_gives version (clock_line w.clock ++ entries))
     (then _ (count_gives (codes "clock;") (codes "clock") w.clock entries refl (omega (arith, clock)))
     (then _ (count_gives (codes "entries;") (codes "entries") (ever w) program refl (omega (arith, many)))
-    (then _ (program_gives w.program (objects_part inv w))
-    (then _ (placed_gives (next_known inv.objects) (object_line inv.objects w.objects) w.objects (object_line_gives inv (ever w) w.objects sound many states h.said.objects) (length inv.objects) 0 (contacts_part inv w) (let long = states.as_many in omega arith))
+    (then _ (program_gives w.program (objects_part version inv w))
+    (then _ (placed_gives (next_known version w.clock inv.objects) (object_line version inv.objects w.objects) w.objects (object_line_gives version w.clock inv (ever w) w.objects sound many states h.said.objects (λ k o at one. of_upgrade w k o (up one) at)) (length inv.objects) 0 (contacts_part inv w) (let long = states.as_many in omega arith))
     (then _ (placed_gives (next_switch inv.contacts) (contact_line inv.contacts w.contacts) w.contacts (contact_line_gives inv.contacts w.contacts world.contacts) (length inv.contacts) 0 notes (let long = world.contacts in omega arith))
     (then _ (comments_head w.notes.last_id (length w.notes.comments) (comments_part inv w))
     (then _ (number_gives 59 w.notes.last_id (decimal (length w.notes.comments) ++ 10 ∷ comments_part inv w) refl (omega (arith, ids, many)))
@@ -199,15 +214,15 @@ world_gives inv w sound h =
     (readable_downtimes (length inv.objects) 0 (length w.downtimes) w.downtimes (omega (arith, few, many)) (omega arith) h.records (recursion_from_All _ w.downtimes world.known) (recursion_from_All _ w.downtimes h.said.downtimes)))
     (ap (λ (rs : List Rejection). Ok (record (going_on w) { rejections = rs; notices = [] })) (sym h.no_rejections) ∙ ap (λ (ns : List Notice). Ok (record (going_on w) { notices = ns })) (sym h.no_notices)))))))))))))
 
-pub heading_reads : (inv : Configuration) (text : List ℕ) (e : Stuck) (w : World) → text ≡ state_text inv w → version_at text ≡ Err e → ⊥
-heading_reads inv text e w is fails =
-    (let rest = clock_line w.clock ++ (entries_line (ever w) ++ (program_line w.program ++ objects_part inv w)) in
-    let clash : ◌≡◌ {A = Result (StateVersion × List ℕ) Stuck} (Err e) (Ok (One, rest)) = sym fails ∙ ap version_at (is ∙ in_parts inv w) ∙ version_gives rest in
-    cc)
+-- the heading of a text names its version
+pub heading_is : (version : StateVersion) (inv : Configuration) (text : List ℕ) (w : World) → text ≡ text_of version inv w → (rest : List ℕ) × (version_at text ≡ Ok (version, rest))
+heading_is version inv text w is =
+    let rest = clock_line w.clock ++ (entries_line (ever w) ++ (program_line w.program ++ objects_part version inv w)) in
+    (rest, ap version_at (is ∙ in_parts version inv w) ∙ version_gives version rest)
 
 -- ---- going on
 
 -- the world with which a monitor goes on has the same text
-pub same_text : (inv : Configuration) (w : World) → state_text inv (going_on w) ≡ state_text inv w
-unfolding state_text
-same_text inv w = let same : (w.before + w.entries) + 0 ≡ w.before + w.entries = omega arith in rw same refl
+pub same_text : (version : StateVersion) (inv : Configuration) (w : World) → text_of version inv (going_on w) ≡ text_of version inv w
+unfolding text_of
+same_text version inv w = let same : (w.before + w.entries) + 0 ≡ w.before + w.entries = omega arith in rw same refl

@@ -3,15 +3,18 @@ use Rattle.std.specs.Prelude.{◌≡◌, ◌≢◌, ◌⊎◌, ℕ, ◌+◌, ◌
 use Rattle.mon_inventory.specs.declared.fault.Cause.TheVariants as in_inventory
 use Rattle.mon_inventory.specs.Configuration.{Configuration, inventory}
 use Rattle.mon_engine.specs.World.{World}
+use Rattle.mon_engine.specs.declared.parts.Misfit.{Misfit}
+use Rattle.mon_engine.specs.declared.parts.Misfit.TheVariants as part
 use Rattle.mon_engine.specs.Saved.{IsSaved}
+use Rattle.mon_engine.specs.Misfits.{IsFirstMisfit}
 use Rattle.mon_state.specs.declared.fault.StateCause.TheVariants.{BadValue, NotAsWritten, UnknownVersion, Memory}
 use Rattle.mon_state.specs.declared.fault.StateFault.{StateFault}
 use Rattle.mon_state.specs.declared.file.FileFault.{FileFault}
 use Rattle.mon_state.specs.declared.file.FileFault.TheVariants.{NoMark, Inventory, State}
-use Rattle.mon_state.specs.declared.version.StateVersion.TheVariants.{One}
+use Rattle.mon_state.specs.declared.version.StateVersion.{StateVersion}
 use Rattle.mon_state.specs.Feeds.{Feeds, feeds_text, AreWritable}
 use Rattle.mon_state.specs.File.{mark, IsHead}
-use Rattle.mon_state.specs.State.{state_text}
+use Rattle.mon_state.specs.State.{text_of}
 use Rattle.mon_state.specs.Version.{IsOfUnknownVersion}
 use Rattle.mon_state.specs.Reading.{version_at, world_at}
 use Rattle.mon_state.specs.FileReading.{feeds_at, behind_mark}
@@ -41,25 +44,45 @@ FailsInHeading text f = (rest : List ℕ) × (version_at text ≡ Err (f.cause, 
 -- after the heading a field is not the one that is due: the fault is that of the first such field, in the line in which
 -- the field begins
 abbrev pub FailsInField : Configuration → (text : List ℕ) → StateFault → Type 0
-FailsInField inv text f = (behind rest : List ℕ) × (version_at text ≡ Ok (One, behind)) × (world_at inv behind ≡ Err (f.cause, rest)) × (f.line ≡ line_of_rest text rest)
+FailsInField inv text f = (version : StateVersion) × (behind rest : List ℕ) × (version_at text ≡ Ok (version, behind)) × (world_at version inv behind ≡ Err (f.cause, rest)) × (f.line ≡ line_of_rest text rest)
 
--- the text spells this world
-abbrev pub Spells : Configuration → (text : List ℕ) → World → Type 0
-Spells inv text w = (behind : List ℕ) × (version_at text ≡ Ok (One, behind)) × (world_at inv behind ≡ Ok w)
+-- the text of this version spells this world
+abbrev pub Spells : StateVersion → Configuration → (text : List ℕ) → World → Type 0
+Spells version inv text w = (behind : List ℕ) × (version_at text ≡ Ok (version, behind)) × (world_at version inv behind ≡ Ok w)
 
--- each field is the one that is due, and no entries can have led to the world that they spell
+-- The line in which a part of a state stands. Lines 1 to 4 are the heading, the clock, the entries and the program.
+-- After them each object and each contact has a line; then come the greatest id and the number of the comments, each
+-- comment, the number of the downtimes, and each downtime.
+abbrev pub line_of_part : (objects contacts comments : ℕ) → Misfit → ℕ
+line_of_part objects contacts comments part.Clock = 2
+line_of_part objects contacts comments part.Before = 3
+line_of_part objects contacts comments (part.Object place) = 5 + place
+line_of_part objects contacts comments part.Contacts = 5 + objects
+line_of_part objects contacts comments part.LastComment = 5 + objects + contacts
+line_of_part objects contacts comments (part.Comment place) = 6 + objects + contacts + place
+line_of_part objects contacts comments part.Downtimes = 6 + objects + contacts + comments
+line_of_part objects contacts comments (part.Downtime place) = 7 + objects + contacts + comments + place
+
+-- each field is the one that is due, and the world that they spell does not fit the inventory: the fault is the first
+-- part that does not, in the line in which it stands
 abbrev pub FailsToFit : Configuration → (text : List ℕ) → StateFault → Type 0
-FailsToFit inv text f = (w : World) × Spells inv text w × (IsSaved inv w → ⊥) × (f.cause ≡ BadValue)
+FailsToFit inv text f =
+    (version : StateVersion) × (w : World) × (found : Misfit) × Spells version inv text w × (IsSaved inv w → ⊥) × IsFirstMisfit inv w found
+    × (f.cause ≡ BadValue) × (f.line ≡ line_of_part (length inv.objects) (length inv.contacts) (length w.notes.comments) found)
 
 -- the text spells a world that is written otherwise: the fault is the first line that differs
 abbrev pub IsWrittenOtherwise : Configuration → (text : List ℕ) → StateFault → Type 0
 IsWrittenOtherwise inv text f =
-    (w : World) × Spells inv text w × IsSaved inv w × (text ≢ state_text inv w) × (f.cause ≡ NotAsWritten) × (f.line ≡ line_at text (difference text (state_text inv w)))
+    (version : StateVersion) × (w : World) × Spells version inv text w × IsSaved inv w × (text ≢ text_of version inv w) × (f.cause ≡ NotAsWritten) × (f.line ≡ line_at text (difference text (text_of version inv w)))
+
+-- the text begins with the heading of a version that is read
+abbrev pub HasHeading : (text : List ℕ) → Type 0
+HasHeading text = (version : StateVersion) × (behind : List ℕ) × (version_at text ≡ Ok (version, behind))
 
 -- the fault with which a text is refused that is no state of the inventory: the first of these that is there, unless
--- memory runs out
+-- memory runs out behind the heading
 abbrev pub IsStateFault : Configuration → (text : List ℕ) → StateFault → Type 0
-IsStateFault inv text f = (f.cause ≡ Memory) ⊎ (FailsInHeading text f ⊎ (FailsInField inv text f ⊎ (FailsToFit inv text f ⊎ IsWrittenOtherwise inv text f)))
+IsStateFault inv text f = (HasHeading text × (f.cause ≡ Memory)) ⊎ (FailsInHeading text f ⊎ (FailsInField inv text f ⊎ (FailsToFit inv text f ⊎ IsWrittenOtherwise inv text f)))
 
 -- ---- feeds
 
@@ -102,15 +125,15 @@ IsUnknownOrMemory (Inventory f) = f.cause ≢ in_inventory.Memory → ⊥
 IsUnknownOrMemory (State f) = (f.cause ≡ UnknownVersion) ⊎ (f.cause ≡ Memory)
 
 -- The fault with which a text is refused that is no file `state`: no line is the mark; or the inventory before the mark
--- has a fault; or the rest does not begin with feeds; or what follows the feeds is no state of the inventory. Or memory
--- runs out.
+-- has a fault; or the rest does not begin with feeds; or it begins with feeds that can be written, and what follows them
+-- is no state of the inventory. Or memory runs out.
 abbrev pub IsFileFault : (text : List ℕ) → FileFault → Type 0
 IsFileFault text NoMark = behind_mark [] text ≡ None
 IsFileFault text (Inventory f) = (given rest : List ℕ) × IsMarked text given rest × (f.cause ≢ in_inventory.Memory → inventory given ≡ Err (f.line, f.cause))
 IsFileFault text (State f) =
     (given rest : List ℕ) × (inv : Configuration) × IsMarked text given rest × (inventory given ≡ Ok inv)
     × (((inner : StateFault) × IsFeedsFault rest inner × IsBehind text rest inner f)
-    ⊎ ((feeds : Feeds) × (state : List ℕ) × (inner : StateFault) × (rest ≡ feeds_text feeds ++ state) × IsStateFault inv state inner × IsBehind text state inner f))
+    ⊎ ((feeds : Feeds) × (state : List ℕ) × (inner : StateFault) × AreWritable feeds × (rest ≡ feeds_text feeds ++ state) × IsStateFault inv state inner × IsBehind text state inner f))
 
 -- ---- of private contracts alone
 

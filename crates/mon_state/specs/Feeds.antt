@@ -4,11 +4,10 @@ use Rattle.std.specs.Fmt.{decimal}
 use Rattle.cmd_types.specs.declared.entry.TheConstants.{MOST_SENDERS}
 use Rattle.cmd_types.specs.declared.limits.TheConstants.{GREATEST_NUMBER}
 use Rattle.cmd_types.specs.Bytes.{Lacks}
-use Rattle.mon_engine.specs.Report.{line, each_index}
+use Rattle.mon_engine.specs.Report.{line, each_index, optional}
 use Rattle.mon_state.specs.declared.feeds.KeptFeed.{KeptFeed}
 use Rattle.mon_state.specs.declared.fault.StateCause.TheVariants.{Memory}
 use Rattle.mon_state.specs.declared.fault.StateFault.{StateFault}
-use Rattle.mon_state.specs.State.{optional}
 
 -- the feeds in order of their numbers, and the number of the clock, if one is a clock
 pub record Feeds : Type 0 where

@@ -4,14 +4,19 @@ use Rattle.mon_inventory.specs.Configuration.{Configuration}
 use Rattle.mon_engine.specs.World.{World}
 use Rattle.mon_state.specs.Feeds.{Feeds, feeds_text}
 use Rattle.mon_state.specs.State.{state_text}
+use Rattle.mon_state.specs.Upgrade.{IsStateText}
 
 -- the line after the inventory
 abbrev pub mark : List ℕ
 mark = codes "---"
 
--- the text of the inventory, the line ---, the feeds, and the state of the world
+-- the text that is written: the text of the inventory, the line ---, the feeds, and the state of the world
 abbrev pub file_text : (given : List ℕ) → Configuration → World → Feeds → List ℕ
 file_text given inv w feeds = given ++ (mark ++ 10 ∷ (feeds_text feeds ++ state_text inv w))
+
+-- the text is read as a file `state` of this inventory, these feeds and this world
+abbrev pub IsFileText : (text given : List ℕ) → Configuration → World → Feeds → Type 0
+IsFileText text given inv w feeds = (state : List ℕ) × (text ≡ given ++ (mark ++ 10 ∷ (feeds_text feeds ++ state))) × IsStateText inv state w
 
 -- whole lines after the beginning of a line, none of which is the mark
 abbrev pub HasNoMark : (line : List ℕ) → List ℕ → Type 0

@@ -9,7 +9,7 @@ use Rattle.mon_state.specs.declared.file.StateFile.{StateFile}
 use Rattle.mon_state.specs.declared.file.FileFault.{FileFault}
 use Rattle.mon_state.specs.declared.file.FileFault.TheVariants.{NoMark, Inventory, State}
 use Rattle.mon_state.specs.Feeds.{Feeds, AreWritable}
-use Rattle.mon_state.specs.File.{file_text, IsHead}
+use Rattle.mon_state.specs.File.{IsFileText, IsHead}
 
 -- the fault is out of memory
 abbrev pub IsWantOfMemory : FileFault → Type 0
@@ -17,8 +17,8 @@ IsWantOfMemory NoMark = ⊥
 IsWantOfMemory (Inventory f) = f.cause ≢ cause.Memory → ⊥
 IsWantOfMemory (State f) = f.cause ≡ Memory
 
--- the text of an inventory, a saved world and its feeds is read as these, the world's entries counted anew; or
--- memory runs out
+-- a text of an inventory, a saved world and its feeds is read as these, the world's entries counted anew; or memory
+-- runs out
 abbrev pub IsReadBack : (text : List ℕ) → Result StateFile FileFault → Type 0
-IsReadBack text read = (given : List ℕ) (inv : Configuration) (w : World) (feeds : Feeds) → IsHead given → inventory given ≡ Ok inv → IsSaved inv w → AreWritable feeds → text ≡ file_text given inv w feeds
+IsReadBack text read = (given : List ℕ) (inv : Configuration) (w : World) (feeds : Feeds) → IsHead given → inventory given ≡ Ok inv → IsSaved inv w → AreWritable feeds → IsFileText text given inv w feeds
     → MatchResult read (λ f. (f.given.now ≡ given) × (f.monitor.inventory ≡ inv) × (f.monitor.world ≡ going_on w) × (f.feeds ≡ feeds)) IsWantOfMemory

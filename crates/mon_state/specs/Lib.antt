@@ -2,6 +2,7 @@
 pub mod Causes
 pub mod Version
 pub mod State
+pub mod Upgrade
 pub mod Feeds
 pub mod File
 pub mod Reading

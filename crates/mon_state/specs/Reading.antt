@@ -6,6 +6,7 @@ use Rattle.std.specs.Option.{option_map}
 use Rattle.std.specs.Str.{bytes_eq}
 use Rattle.std.specs.Str.Parse.{digits_value}
 use Rattle.cmd_types.specs.Cuts.{before, after}
+use Rattle.mon_checks.specs.declared.status.Status.{Status}
 use Rattle.mon_notes.specs.declared.comment.Comment.{Comment}
 use Rattle.mon_notify.specs.declared.contacts.ContactSwitch.{ContactSwitch}
 use Rattle.mon_downtime.specs.declared.downtime.Downtime.{Downtime}
@@ -15,6 +16,7 @@ use Rattle.mon_inventory.specs.declared.records.ObjectSpec.{ObjectSpec}
 use Rattle.mon_inventory.specs.declared.records.ContactSpec.{ContactSpec}
 use Rattle.mon_inventory.specs.Configuration.{Configuration}
 use Rattle.mon_engine.specs.declared.object.Object.{Object}
+use Rattle.mon_engine.specs.declared.object.Moments.{Moments}
 use Rattle.mon_engine.specs.declared.object.Acknowledgement.{Acknowledgement}
 use Rattle.mon_engine.specs.declared.object.Acknowledgement.TheVariants.{Unacknowledged, Normal, Sticky}
 use Rattle.mon_engine.specs.declared.switches.Program.{Program}
@@ -25,7 +27,9 @@ use Rattle.mon_state.specs.declared.fault.StateCause.{StateCause}
 use Rattle.mon_state.specs.declared.fault.StateCause.TheVariants.{BadLine, BadValue, UnknownVersion}
 use Rattle.mon_state.specs.declared.lines.AuthorText.{AuthorText}
 use Rattle.mon_state.specs.declared.version.StateVersion.{StateVersion}
+use Rattle.mon_state.specs.declared.version.StateVersion.TheVariants.{One, Two}
 use Rattle.mon_state.specs.Version.{version_of, is_number}
+use Rattle.mon_state.specs.Upgrade.{upgraded}
 
 -- why a text is not read on, and the text from the field at fault on
 abbrev pub Stuck : Type 0
@@ -46,6 +50,17 @@ ended at field (Some rest) = Ok (field, rest)
 -- the bytes before the first byte `end`, which ends the field
 unfoldable pub field_at : (end : ℕ) → List ℕ → Result (List ℕ × List ℕ) Stuck
 field_at end text = ended text (before end text) (after end text)
+
+-- the field, where no line feed is in it
+abbrev pub in_one_line : (at : List ℕ) → List ℕ × List ℕ → (behind_feed : Option (List ℕ)) → Result (List ℕ × List ℕ) Stuck
+in_one_line at field None = Ok field
+in_one_line at field (Some rest) = Err (BadLine, at)
+
+-- the bytes before the first semicolon, which ends the field in the line in which the field begins
+unfoldable pub word_at : List ℕ → Result (List ℕ × List ℕ) Stuck
+word_at text = do
+  field ← field_at 59 text
+  in_one_line text field (after 10 field.0)
 
 -- the text after these bytes, where it begins with them
 unfoldable pub rest_after : (expected : List ℕ) → List ℕ → Option (List ℕ)
@@ -133,25 +148,30 @@ acknowledgement_at text = do
   a ← some_or text (acknowledgement_of field.0)
   Ok (a, field.1)
 
--- active between two moments, where both are there
-abbrev pub active_of : Option ℕ → Option ℕ → Option Fate
-active_of None until = None
-active_of (Some since) None = None
-active_of (Some since) (Some until) = Some (Active since until)
+-- the two moments of a downtime that is active
+unfoldable pub active_at : List ℕ → Result (Fate × List ℕ) Stuck
+active_at text = do
+  since ← number_at 59 text
+  until ← number_at 59 since.1
+  Ok (Active since.0 until.0, until.1)
 
--- the fate of a word; moments after another word than `active` are not tested here: the text that is written again
--- shows them
-abbrev pub fate_of : List ℕ → Option ℕ → Option ℕ → Option Fate
-fate_of word since until = if bytes_eq word (codes "pending") then Some Pending else (if bytes_eq word (codes "over") then Some Over else (if bytes_eq word (codes "active") then active_of since until else None))
+-- the fields of the two moments after another fate, which may be empty. A moment in them is not refused here: the text
+-- that is written again shows it.
+unfoldable pub inactive_at : Fate → List ℕ → Result (Fate × List ℕ) Stuck
+inactive_at fate text = do
+  since ← optional_at 59 text
+  until ← optional_at 59 since.1
+  Ok (fate, until.1)
+
+-- the moments after this word, which has to be that of a fate
+abbrev pub fate_of : (at word : List ℕ) → List ℕ → Result (Fate × List ℕ) Stuck
+fate_of at word text = if bytes_eq word (codes "pending") then inactive_at Pending text else (if bytes_eq word (codes "over") then inactive_at Over text else (if bytes_eq word (codes "active") then active_at text else Err (BadLine, at)))
 
 -- FATE;SINCE;UNTIL;
 unfoldable pub fate_at : List ℕ → Result (Fate × List ℕ) Stuck
 fate_at text = do
-  word ← field_at 59 text
-  since ← optional_at 59 word.1
-  until ← optional_at 59 since.1
-  fate ← some_or since.1 (fate_of word.0 since.0 until.0)
-  Ok (fate, until.1)
+  word ← word_at text
+  fate_of text word.0 word.1
 
 -- ---- the parts of a line
 
@@ -190,9 +210,18 @@ head_of host (Some name) text = do
   rest ← name_at host rest
   name_at name rest
 
--- the line of a host or a service
-unfoldable pub known_at : ObjectSpec → List ℕ → Result (Object × List ℕ) Stuck
-known_at spec text = do
+-- the moments of an object in this status, where the text has this clock; those of version 1 are those of an upgrade
+unfoldable pub moments_at : StateVersion → (clock : ℕ) → Status → List ℕ → Result (Moments × List ℕ) Stuck
+moments_at One clock status text = Ok (upgraded clock status, text)
+moments_at Two clock status text = do
+  checked ← optional_at 59 text
+  changed ← number_at 59 checked.1
+  since ← optional_at 59 changed.1
+  Ok (record { checked = checked.0; changed = changed.0; since = since.0 }, since.1)
+
+-- the line of a host or a service, where the text has this clock
+unfoldable pub known_at : StateVersion → (clock : ℕ) → ObjectSpec → List ℕ → Result (Object × List ℕ) Stuck
+known_at version clock spec text = do
   text ← head_of spec.host spec.service text
   code ← small_at 255 59 text
   hard ← flag_at 59 code.1
@@ -204,10 +233,12 @@ known_at spec text = do
   not_before ← optional_at 59 notified.1
   notify ← flag_at 59 not_before.1
   passive ← flag_at 59 notify.1
-  output ← field_at 10 passive.1
+  moments ← moments_at version clock (record { service = is_service spec; code = code.0; hard = hard.0; attempt = attempt.0 }) passive.1
+  output ← field_at 10 moments.1
   Ok (
     record {
       status = record { service = is_service spec; code = code.0; hard = hard.0; attempt = attempt.0 };
+      moments = moments.0;
       output = output.0;
       acknowledgement = acknowledgement.0;
       number = number.0;
@@ -232,7 +263,7 @@ switch_at spec text = do
 -- AUTHOR;TEXT and the line feed
 unfoldable pub said_at : List ℕ → Result (AuthorText × List ℕ) Stuck
 said_at text = do
-  author ← field_at 59 text
+  author ← word_at text
   text ← field_at 10 author.1
   Ok (record { author = author.0; text = text.0 }, text.1)
 
@@ -285,13 +316,13 @@ many_at one zero xs text = Ok (xs, text)
 many_at one (suc count) xs text = one xs text >>= λ x. many_at one count (xs ++ x.0 ∷ []) x.1
 
 -- the line of this object, where there is one
-abbrev pub known_of : Option ObjectSpec → List ℕ → Result (Object × List ℕ) Stuck
-known_of None text = Err (BadLine, text)
-known_of (Some spec) text = known_at spec text
+abbrev pub known_of : StateVersion → (clock : ℕ) → Option ObjectSpec → List ℕ → Result (Object × List ℕ) Stuck
+known_of version clock None text = Err (BadLine, text)
+known_of version clock (Some spec) text = known_at version clock spec text
 
 -- the line of the object after those that were read
-abbrev pub next_known : List ObjectSpec → List Object → List ℕ → Result (Object × List ℕ) Stuck
-next_known specs os text = known_of (slice_get specs (length os)) text
+abbrev pub next_known : StateVersion → (clock : ℕ) → List ObjectSpec → List Object → List ℕ → Result (Object × List ℕ) Stuck
+next_known version clock specs os text = known_of version clock (slice_get specs (length os)) text
 
 -- the line of this contact, where there is one
 abbrev pub switch_of : Option ContactSpec → List ℕ → Result (ContactSwitch × List ℕ) Stuck
@@ -342,12 +373,12 @@ count_at word text = do
 
 -- the world that the text after the heading spells, but for the line `end`: the text that is written again shows that
 -- line
-unfoldable pub world_at : Configuration → List ℕ → Result World Stuck
-world_at inv text = do
+unfoldable pub world_at : StateVersion → Configuration → List ℕ → Result World Stuck
+world_at version inv text = do
   clock ← count_at (codes "clock;") text
   before ← count_at (codes "entries;") clock.1
   program ← program_at before.1
-  objects ← many_at (next_known inv.objects) (length inv.objects) [] program.1
+  objects ← many_at (next_known version clock.0 inv.objects) (length inv.objects) [] program.1
   contacts ← many_at (next_switch inv.contacts) (length inv.contacts) [] objects.1
   text ← expect_at (codes "comments;") contacts.1
   last_id ← number_at 59 text

@@ -1,4 +1,4 @@
--- The text of a world: one line for each fact, each field after a semicolon, as in the report.
+-- The text of a world, in each version: one line for each fact, each field after a semicolon, as in the report.
 use Rattle.std.specs.Prelude.{ℕ, ◌+◌, List, [], ◌∷◌, ◌++◌, length, Option, Some, None, codes, slice_get}
 use Rattle.std.specs.List.{flat_map}
 use Rattle.std.specs.Fmt.{decimal}
@@ -11,20 +11,16 @@ use Rattle.mon_downtime.specs.Events.{active_since}
 use Rattle.mon_inventory.specs.declared.records.ObjectSpec.{ObjectSpec}
 use Rattle.mon_inventory.specs.Configuration.{Configuration}
 use Rattle.mon_engine.specs.declared.object.Object.{Object}
+use Rattle.mon_engine.specs.declared.object.Moments.{Moments}
 use Rattle.mon_engine.specs.Words.{acknowledgement_text}
-use Rattle.mon_engine.specs.Report.{line, flag, or_empty, clock_line, program_line, contact_line, each_index}
+use Rattle.mon_engine.specs.Report.{line, flag, optional, or_empty, clock_line, program_line, contact_line, each_index}
 use Rattle.mon_engine.specs.World.{World}
 use Rattle.mon_engine.specs.Sound.{ever}
 use Rattle.mon_state.specs.declared.version.StateVersion.{StateVersion}
-use Rattle.mon_state.specs.declared.version.StateVersion.TheVariants.{One}
+use Rattle.mon_state.specs.declared.version.StateVersion.TheVariants.{One, Two}
 use Rattle.mon_state.specs.Version.{version_number}
 
 -- ---- fields
-
--- a number, or an empty field
-abbrev pub optional : Option ℕ → List ℕ
-optional None = []
-optional (Some n) = decimal n
 
 -- the word for a fate
 abbrev pub fate_word : Fate → List ℕ
@@ -56,26 +52,37 @@ heading_line version = line (codes "state") (decimal (version_number version) �
 abbrev pub entries_line : ℕ → List ℕ
 entries_line n = line (codes "entries") (decimal n ∷ [])
 
--- CODE;HARD;ATTEMPT;ACK;NUMBER;LAST;NOTIFIED;NOT_BEFORE;NOTIFY;PASSIVE;OUTPUT
-abbrev pub known_fields : Object → List (List ℕ)
-known_fields o =
-    decimal o.status.code ∷ flag o.status.hard ∷ decimal o.status.attempt ∷ acknowledgement_text o.acknowledgement ∷ decimal o.number
-    ∷ optional o.last ∷ optional o.notified ∷ optional o.not_before ∷ flag o.notify ∷ flag o.passive ∷ o.output ∷ []
+-- CHECKED;CHANGED;SINCE, which version 1 lacks
+abbrev pub moment_fields : StateVersion → Moments → List (List ℕ)
+moment_fields One m = []
+moment_fields Two m = optional m.checked ∷ decimal m.changed ∷ optional m.since ∷ []
+
+-- CODE;HARD;ATTEMPT;ACK
+abbrev pub status_fields : Object → List (List ℕ)
+status_fields o = decimal o.status.code ∷ flag o.status.hard ∷ decimal o.status.attempt ∷ acknowledgement_text o.acknowledgement ∷ []
+
+-- NUMBER;LAST;NOTIFIED;NOT_BEFORE;NOTIFY;PASSIVE
+abbrev pub notice_fields : Object → List (List ℕ)
+notice_fields o = decimal o.number ∷ optional o.last ∷ optional o.notified ∷ optional o.not_before ∷ flag o.notify ∷ flag o.passive ∷ []
+
+-- the status, what is known of notices, the moments, and OUTPUT
+abbrev pub known_fields : StateVersion → Object → List (List ℕ)
+known_fields version o = status_fields o ++ notice_fields o ++ moment_fields version o.moments ++ o.output ∷ []
 
 -- the line of a host, or of the service of this name
-abbrev pub host_or_service_line : (host : List ℕ) → Option (List ℕ) → Object → List ℕ
-host_or_service_line host None o = line (codes "host") (host ∷ known_fields o)
-host_or_service_line host (Some name) o = line (codes "service") (host ∷ name ∷ known_fields o)
+abbrev pub host_or_service_line : StateVersion → (host : List ℕ) → Option (List ℕ) → Object → List ℕ
+host_or_service_line version host None o = line (codes "host") (host ∷ known_fields version o)
+host_or_service_line version host (Some name) o = line (codes "service") (host ∷ name ∷ known_fields version o)
 
 -- the line of an object that is there, with its state
-abbrev pub object_line_of : Option ObjectSpec → Option Object → List ℕ
-object_line_of None o = []
-object_line_of (Some spec) None = []
-object_line_of (Some spec) (Some o) = host_or_service_line spec.host spec.service o
+abbrev pub object_line_of : StateVersion → Option ObjectSpec → Option Object → List ℕ
+object_line_of version None o = []
+object_line_of version (Some spec) None = []
+object_line_of version (Some spec) (Some o) = host_or_service_line version spec.host spec.service o
 
 -- the line of the object of this index
-unfoldable pub object_line : List ObjectSpec → List Object → ℕ → List ℕ
-object_line specs os object = object_line_of (slice_get specs object) (slice_get os object)
+unfoldable pub object_line : StateVersion → List ObjectSpec → List Object → ℕ → List ℕ
+object_line version specs os object = object_line_of version (slice_get specs object) (slice_get os object)
 
 -- the greatest id that a comment ever had, and how many comments there are
 abbrev pub comments_line : CommentList → List ℕ
@@ -119,16 +126,20 @@ line_count inv w = 6 + length inv.objects + length inv.contacts + length w.notes
 
 -- heading, clock, entries, program; objects and contacts in the order of the inventory; comments and downtimes by
 -- id; the end
-unfoldable pub state_text : Configuration → World → List ℕ
-state_text inv w =
-    heading_line One
+unfoldable pub text_of : StateVersion → Configuration → World → List ℕ
+text_of version inv w =
+    heading_line version
     ++ clock_line w.clock
     ++ entries_line (ever w)
     ++ program_line w.program
-    ++ each_index (object_line inv.objects w.objects) (length inv.objects)
+    ++ each_index (object_line version inv.objects w.objects) (length inv.objects)
     ++ each_index (contact_line inv.contacts w.contacts) (length inv.contacts)
     ++ comments_line w.notes
     ++ flat_map (comment_line inv.objects) w.notes.comments
     ++ downtimes_line w.downtimes
     ++ flat_map (downtime_line inv.objects) w.downtimes
     ++ end_line (line_count inv w)
+
+-- the text that is written
+abbrev pub state_text : Configuration → World → List ℕ
+state_text inv w = text_of Two inv w

@@ -5,12 +5,13 @@ use Rattle.std.specs.Str.{all_ascii_digits}
 use Rattle.std.specs.Str.Parse.{digits_value}
 use Rattle.mon_state.specs.declared.number.TheConstants.{MOST_DIGITS}
 use Rattle.mon_state.specs.declared.version.StateVersion.{StateVersion}
-use Rattle.mon_state.specs.declared.version.StateVersion.TheVariants.{One}
+use Rattle.mon_state.specs.declared.version.StateVersion.TheVariants.{One, Two}
 use Rattle.mon_state.specs.declared.version.TheConstants.{VERSIONS}
 
 -- the number of a version
 abbrev pub version_number : StateVersion → ℕ
 version_number One = 1
+version_number Two = 2
 
 -- the version of this number
 unfoldable pub version_of : (number : ℕ) → Option StateVersion

@@ -2,8 +2,7 @@
 ghost use Rattle.std.specs.Prelude.{◌≡◌, ◌++◌, OnOk};
 ghost use Rattle.cmd_types.specs.Growth.{Grows};
 ghost use Rattle.mon_engine.specs.Fields.{shown, texts};
-ghost use Rattle.mon_engine.specs.Report.{line};
-ghost use Rattle.mon_state.specs.State.{optional};
+ghost use Rattle.mon_engine.specs.Report.{line, optional};
 
 use cmd_types::Memory;
 use mon_engine::{Field, put_line};
@@ -15,16 +14,6 @@ pub fn put(out: &mut Vec<u8>, word: &[u8], fields: &[Field<'_>]) -> Result<(), M
     ensures grown { Grows out.old.items out.new.items }
 {
     put_line(out, word, fields)
-}
-
-/// The field of an optional number; empty for `None`.
-pub fn optional<'a>(n: Option<u64>) -> Field<'a>
-    ensures { shown result ≡ optional n }
-{
-    match n {
-        None => Field::Bytes(b""),
-        Some(n) => Field::Number(n),
-    }
 }
 
 /// The field of an optional code; empty for `None`.

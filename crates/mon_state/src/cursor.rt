@@ -2,7 +2,7 @@
 //! last field that it read or tried to read: a fault is reported in the line of that field.
 ghost use Rattle.std.specs.Prelude.{◌≡◌, length};
 ghost use Rattle.std.specs.Option.{option_copied};
-ghost use Rattle.mon_state.specs.Reading.{field_at, rest_after, expect_at};
+ghost use Rattle.mon_state.specs.Reading.{field_at, word_at, rest_after, expect_at};
 ghost use Rattle.mon_state.specs.Cursors.{Gives};
 
 use crate::fault::StateCause;
@@ -65,6 +65,20 @@ impl<'a> Cursor<'a> {
                 self.rest = rest;
                 Ok(field)
             }
+        }
+    }
+
+    /// Reads the bytes before the next semicolon, and moves after the semicolon. Where there is none in the line, returns
+    /// `BadLine`.
+    #[tactic(auto, unfolding(crate::specs::Reading::word_at))]
+    pub fn word(&mut self) -> Result<&'a [u8], StateCause>
+        ensures read { Gives (λ x. (x.now, self.new.rest)) self.new.last result (word_at self.old.rest) }
+        ensures at { self.new.last ≡ self.old.rest }
+    {
+        let word = self.field(b';')?;
+        match cut(b'\n', word) {
+            (_, None) => Ok(word),
+            (_, Some(_)) => Err(StateCause::BadLine),
         }
     }
 

@@ -11,11 +11,11 @@ use std::alloc::AllocFailed;
 /// See the example of [`StateFault`].
 #[derive(Clone, Copy, Debug, PartialEq, Eq)]
 pub enum StateCause {
-    /// The line does not have the required form: it is missing, or its word, a name of the inventory or a number is not
-    /// the required one.
+    /// The line does not have the required form: it is missing, its word, a name of the inventory, a number or another
+    /// field is not the required one, or a field does not end in it.
     BadLine,
-    /// A number is out of range, an id is out of order, or no entries can have led to the state of the object in this
-    /// line.
+    /// A number is out of range, an id is out of order, or the part of the state in this line does not fit the inventory
+    /// for another reason ([`Misfit`](mon_engine::Misfit)).
     BadValue,
     /// The same state would be written with another line here: the line has a leading zero or a wrong count, or is
     /// after the line `end`.
@@ -64,11 +64,11 @@ impl<T: Drop> From<AllocFailed<T>> for StateCause {
 /// ```
 /// // INVENTORY: the text of an inventory with the host web
 /// let inventory = Inventory::parse(alloc, INVENTORY)?;
-/// let Err(fault) = read_state(alloc, inventory, b"state;2\n") else {
+/// let Err(fault) = read_state(alloc, inventory, b"state;3\n") else {
 ///     return Err(Fail::new("it has another version"));
 /// };
 /// assert_eq!(rt; (fault.line, fault.cause), (1, StateCause::UnknownVersion));
-/// assert!(rt; StateVersion::of_number(2).is_none());
+/// assert!(rt; StateVersion::of_number(3).is_none());
 /// ```
 #[derive(Clone, Copy, Debug, PartialEq, Eq)]
 pub struct StateFault {

@@ -11,7 +11,7 @@ ghost use Rattle.mon_state.specs.Reading.{many_at};
 ghost use Rattle.mon_state.specs.FileReading.{feed_at, next_feed, is_feed, feeds_at};
 ghost use Rattle.mon_state.specs.Cursors.{Gives};
 
-use crate::appending::{optional, put};
+use crate::appending::put;
 use crate::cursor::{Cursor, rest_after};
 use crate::fault::{StateCause, StateFault};
 use crate::places::{difference, line_at};
@@ -94,7 +94,11 @@ fn put_feeds(out: &mut Vec<u8>, feeds: &KeptFeeds) -> Result<(), Memory>
         Some(clock) => Some(u64::from(clock)),
     };
     let count = feeds.list.len() as u64;
-    put(out, b"feeds", &[optional(clock), Field::Number(count)])?;
+    put(
+        out,
+        b"feeds",
+        &[Field::optional(clock), Field::Number(count)],
+    )?;
     put_each(out, &feeds.list)
 }
 

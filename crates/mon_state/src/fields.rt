@@ -2,7 +2,7 @@
 //! the field (`end`), also where the field has a fault. Where there is no such byte, the method returns `BadLine` and
 //! the unread bytes are unchanged.
 ghost use Rattle.std.specs.Prelude.{◌≡◌, ◌≤◌, IfOk};
-ghost use Rattle.mon_state.specs.Reading.{number_at, small_at, optional_of, optional_at, optional_code_at, flag_of, flag_at, acknowledgement_of, acknowledgement_at, fate_of, fate_at, name_at, count_at};
+ghost use Rattle.mon_state.specs.Reading.{number_at, small_at, optional_of, optional_at, optional_code_at, flag_of, flag_at, acknowledgement_of, acknowledgement_at, active_at, inactive_at, fate_at, name_at, count_at};
 ghost use Rattle.mon_state.specs.Cursors.{Gives};
 
 use crate::cursor::Cursor;
@@ -31,24 +31,6 @@ fn acknowledgement_of(field: &[u8]) -> Option<Acknowledgement>
         b"1" => Some(Acknowledgement::Normal),
         b"2" => Some(Acknowledgement::Sticky),
         _ => None,
-    }
-}
-
-/// The fate with this word, and with these moments where the word is `active`. `None` for any other word, or where a
-/// moment of `active` is missing.
-fn fate_of(word: &[u8], since: Option<u64>, until: Option<u64>) -> Option<Fate>
-    ensures { result ≡ fate_of word.now since until }
-{
-    if word == b"pending".as_slice() {
-        Some(Fate::Pending)
-    } else if word == b"over".as_slice() {
-        Some(Fate::Over)
-    } else if word == b"active".as_slice() {
-        let since = since?;
-        let until = until?;
-        Some(Fate::Active { since, until })
-    } else {
-        None
     }
 }
 
@@ -147,18 +129,42 @@ impl Cursor<'_> {
         }
     }
 
-    /// Reads the three fields of a downtime's fate: its word, and two moments, each of which may be empty. Where it
-    /// returns an error, a part of the fields may be read.
+    /// Reads the two moments of an active downtime. Where it returns an error, the first of them may be read.
+    #[tactic(auto, unfolding(crate::specs::Reading::active_at))]
+    fn active(&mut self) -> Result<Fate, StateCause>
+        ensures { Gives (λ f. (f, self.new.rest)) self.new.last result (active_at self.old.rest) }
+    {
+        let since = self.number(b';')?;
+        let until = self.number(b';')?;
+        Ok(Fate::Active { since, until })
+    }
+
+    /// Reads the two fields of moments after this fate, each of which may be empty. Where it returns an error, the first
+    /// of them may be read.
+    #[tactic(auto, unfolding(crate::specs::Reading::inactive_at))]
+    fn inactive(&mut self, fate: Fate) -> Result<Fate, StateCause>
+        ensures { Gives (λ f. (f, self.new.rest)) self.new.last result (inactive_at fate self.old.rest) }
+    {
+        self.optional(b';')?;
+        self.optional(b';')?;
+        Ok(fate)
+    }
+
+    /// Reads the three fields of a downtime's fate: its word and two moments, which a downtime that is not active lacks.
+    /// Where it returns an error, a part of the fields may be read.
     #[tactic(auto, unfolding(crate::specs::Reading::fate_at))]
     pub fn fate(&mut self) -> Result<Fate, StateCause>
         ensures { Gives (λ f. (f, self.new.rest)) self.new.last result (fate_at self.old.rest) }
     {
-        let word = self.field(b';')?;
-        let since = self.optional(b';')?;
-        let until = self.optional(b';')?;
-        match fate_of(word, since, until) {
-            None => Err(StateCause::BadLine),
-            Some(fate) => Ok(fate),
+        let word = self.word()?;
+        if word == b"pending".as_slice() {
+            self.inactive(Fate::Pending)
+        } else if word == b"over".as_slice() {
+            self.inactive(Fate::Over)
+        } else if word == b"active".as_slice() {
+            self.active()
+        } else {
+            Err(StateCause::BadLine)
         }
     }
 

@@ -1,16 +1,19 @@
 //! The lines of the program, the objects, the contacts, the comments and the downtimes, each read from its first byte
 //! to its line feed. Each `read_..` moves the cursor after the bytes that it read. Where it returns an error, the
 //! cursor is in the line with the fault or after it.
-ghost use Rattle.std.specs.Prelude.{◌≡◌, ◌<◌, ◌^◌, length};
-ghost use Rattle.mon_state.specs.Reading.{names_at, object_at, head_of, known_at, switch_at, said_at, comment_at, downtime_at, program_at};
+ghost use Rattle.std.specs.Prelude.{◌≡◌, ◌<◌, ◌^◌, IfOk, length};
+ghost use Rattle.mon_state.specs.Reading.{names_at, object_at, head_of, moments_at, known_at, switch_at, said_at, comment_at, downtime_at, program_at};
+ghost use Rattle.mon_state.specs.declared.version.StateVersion.TheVariants.{One};
+ghost use Rattle.mon_state.specs.Upgrade.{upgraded, upgraded_object};
 ghost use Rattle.mon_state.specs.Cursors.{Gives};
 
 use crate::cursor::Cursor;
 use crate::fault::StateCause;
+use crate::version::StateVersion;
 use cmd_types::Text;
 use mon_checks::Status;
 use mon_downtime::{Downtime, Plan, Times};
-use mon_engine::{Object, Program};
+use mon_engine::{Moments, Object, Program};
 use mon_inventory::{ContactSpec, Inventory, ObjectSpec};
 use mon_notes::{BoxedText, Comment};
 use mon_notify::ContactSwitch;
@@ -61,15 +64,61 @@ fn read_head(cursor: &mut Cursor<'_>, spec: &ObjectSpec) -> Result<(), StateCaus
     }
 }
 
-/// Reads the line of a host or a service, which has to have the names in this line of the inventory. Whether entries
-/// can have led to its state is not tested here.
+/// The moments of an object in this status that a text of version 1 with this clock is taken to have: it was never
+/// checked, and is as it is since the clock.
+fn upgraded(clock: u64, status: Status) -> Moments
+    ensures { result ≡ upgraded clock status }
+{
+    Moments {
+        checked: None,
+        changed: clock,
+        since: if status.code != 0 && status.hard {
+            Some(clock)
+        } else {
+            None
+        },
+    }
+}
+
+/// Reads the moments of an object in this status, each of which may be empty but that of the last change; a text of
+/// version 1 with this clock has no such fields.
+#[tactic(auto, unfolding(crate::specs::Reading::moments_at))]
+fn read_moments(
+    cursor: &mut Cursor<'_>,
+    version: StateVersion,
+    clock: u64,
+    status: Status,
+) -> Result<Moments, StateCause>
+    ensures read { Gives (λ m. (m, cursor.new.rest)) cursor.new.last result (moments_at version clock status cursor.old.rest) }
+    ensures first { version ≡ One → IfOk result (λ m. m ≡ upgraded clock status) }
+{
+    match version {
+        StateVersion::One => Ok(upgraded(clock, status)),
+        StateVersion::Two => {
+            let checked = cursor.optional(b';')?;
+            let changed = cursor.number(b';')?;
+            let since = cursor.optional(b';')?;
+            Ok(Moments {
+                checked,
+                changed,
+                since,
+            })
+        }
+    }
+}
+
+/// Reads the line of a host or a service in a text of this version with this clock. The line has to have the names in
+/// this line of the inventory. Whether its state fits that line is not tested here.
 #[tactic(auto, unfolding(crate::specs::Reading::known_at))]
 pub fn read_known(
     alloc: Global,
     cursor: &mut Cursor<'_>,
+    version: StateVersion,
+    clock: u64,
     spec: &ObjectSpec,
 ) -> Result<Object, StateCause>
-    ensures { Gives (λ o. (o, cursor.new.rest)) cursor.new.last result (known_at spec.now cursor.old.rest) }
+    ensures read { Gives (λ o. (o, cursor.new.rest)) cursor.new.last result (known_at version clock spec.now cursor.old.rest) }
+    ensures first { version ≡ One → IfOk result (λ o. upgraded_object clock o ≡ o) }
 {
     read_head(cursor, spec)?;
     let code = cursor.small(255, b';')?;
@@ -82,14 +131,17 @@ pub fn read_known(
     let not_before = cursor.optional(b';')?;
     let notify = cursor.flag(b';')?;
     let passive = cursor.flag(b';')?;
+    let status = Status {
+        service: spec.service.is_some(),
+        code: code as u8,
+        hard,
+        attempt,
+    };
+    let moments = read_moments(cursor, version, clock, status)?;
     let output = cursor.field(b'\n')?;
     Ok(Object {
-        status: Status {
-            service: spec.service.is_some(),
-            code: code as u8,
-            hard,
-            attempt,
-        },
+        status,
+        moments,
         output: Text::from_slice(alloc, output)?,
         acknowledgement,
         number,
@@ -141,7 +193,7 @@ struct AuthorText {
 fn read_said(alloc: Global, cursor: &mut Cursor<'_>) -> Result<AuthorText, StateCause>
     ensures { Gives (λ s. (s, cursor.new.rest)) cursor.new.last result (said_at cursor.old.rest) }
 {
-    let author = cursor.field(b';')?;
+    let author = cursor.word()?;
     let text = cursor.field(b'\n')?;
     Ok(AuthorText {
         author: Text::from_slice(alloc, author)?,

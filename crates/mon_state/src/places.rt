@@ -1,7 +1,7 @@
 //! Line numbers for faults: the line of a byte, the first byte at which two texts differ, and the line of a part of a
 //! state.
-ghost use Rattle.std.specs.Prelude.{◌≡◌};
-ghost use Rattle.mon_state.specs.Faults.{line_at, difference};
+ghost use Rattle.std.specs.Prelude.{◌≡◌, ◌<◌, ◌^◌};
+ghost use Rattle.mon_state.specs.Faults.{line_at, difference, line_of_part};
 
 use mon_engine::Misfit;
 
@@ -35,40 +35,32 @@ pub fn difference(text: &[u8], other: &[u8]) -> usize
 /// The number of lines before the objects: heading, clock, entries and program (`specs/State.antt`).
 const HEAD: u64 = 4;
 
-/// The numbers, from 1, of the lines of a state at which its contacts, comments and downtimes begin.
-#[derive(Drop)]
-pub struct Heads {
-    contacts: u64,
-    comments: u64,
-    downtimes: u64,
+/// How many objects, contacts and comments a state has.
+#[derive(Clone, Copy)]
+pub struct Counts {
+    pub objects: u16,
+    pub contacts: u16,
+    pub comments: usize,
 }
 
-impl Heads {
-    /// Makes these numbers for a state with `objects` objects, `contacts` contacts and `comments` comments.
-    pub fn of(objects: u16, contacts: u16, comments: usize) -> Heads {
-        let contacts_begin = HEAD + 1 + u64::from(objects);
-        let comments_begin = contacts_begin + u64::from(contacts);
-        Heads {
-            contacts: contacts_begin,
-            comments: comments_begin,
-            downtimes: (comments_begin + 1).saturating_add(comments as u64),
-        }
-    }
-
-    /// The number, from 1, of the line that has the misfit.
-    pub fn line_of(&self, misfit: Misfit) -> u64 {
-        match misfit {
+impl Counts {
+    /// The number, from 1, of the line in which a part of such a state stands. Requires that it fits into 64 bits, as
+    /// that of a first misfit does.
+    pub fn line_of(self, part: Misfit) -> u64
+        requires { line_of_part self.objects self.contacts self.comments part < 2 ^ 64 }
+        ensures { result ≡ line_of_part self.objects self.contacts self.comments part }
+    {
+        let contacts = HEAD + 1 + u64::from(self.objects);
+        let comments = contacts + u64::from(self.contacts);
+        match part {
             Misfit::Clock => 2,
             Misfit::Before => 3,
-            Misfit::Object(place) => (HEAD + 1).saturating_add(place as u64),
-            Misfit::Contacts => self.contacts,
-            Misfit::LastComment => self.comments,
-            Misfit::Comment(place) => self.comments.saturating_add(1).saturating_add(place as u64),
-            Misfit::Downtimes => self.downtimes,
-            Misfit::Downtime(place) => self
-                .downtimes
-                .saturating_add(1)
-                .saturating_add(place as u64),
+            Misfit::Object(place) => HEAD + 1 + place as u64,
+            Misfit::Contacts => contacts,
+            Misfit::LastComment => comments,
+            Misfit::Comment(place) => comments + 1 + place as u64,
+            Misfit::Downtimes => comments + 1 + self.comments as u64,
+            Misfit::Downtime(place) => comments + 2 + self.comments as u64 + place as u64,
         }
     }
 }

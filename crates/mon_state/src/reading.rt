@@ -1,9 +1,10 @@
 //! Reads a state: first its parts, line by line, and then the monitor that resumes from them. Each `read_..` of lines
 //! moves the cursor after the lines that it read.
-ghost use Rattle.std.specs.Prelude.{◌≡◌, ◌≢◌, [], false, length, Ok, IfOk, IfErr, OnOk};
+ghost use Rattle.std.specs.Prelude.{◌≡◌, ◌≢◌, [], false, length, map, Ok, IfOk, IfErr, OnOk};
 ghost use Rattle.std.specs.Result.{IsErrAnd};
 ghost use Rattle.mon_engine.specs.Saved.{IsSaved};
-ghost use Rattle.mon_state.specs.State.{state_text};
+ghost use Rattle.mon_state.specs.State.{text_of};
+ghost use Rattle.mon_state.specs.Upgrade.{upgraded_object, upgrade, IsStateText};
 ghost use Rattle.mon_state.specs.Version.{IsOfUnknownVersion};
 ghost use Rattle.mon_state.specs.Answers.{ReadsBack};
 ghost use Rattle.mon_state.specs.Faults.{IsOtherText, IsStateFault};
@@ -15,9 +16,9 @@ ghost use Rattle.mon_state.specs.Cursors.{Gives};
 use crate::cursor::Cursor;
 use crate::fault::{StateCause, StateFault};
 use crate::lines::{read_comment, read_downtime, read_known, read_program, read_switch};
-use crate::places::{Heads, difference, line_at};
+use crate::places::{Counts, difference, line_at};
 use crate::version::{StateVersion, read_heading};
-use crate::writing::write_state;
+use crate::writing::put_state;
 use mon_downtime::Downtime;
 use mon_engine::{Monitor, Object, Parts, ResumeFault};
 use mon_inventory::Inventory;
@@ -25,17 +26,21 @@ use mon_notes::Comment;
 use mon_notify::ContactSwitch;
 use std::alloc::Global;
 
-/// Reads the lines of all objects, in the order of the inventory, and moves the cursor after them.
+/// Reads the lines of all objects in a text of this version with this clock, in the order of the inventory, and moves the
+/// cursor after them.
 fn read_objects(
     alloc: Global,
     cursor: &mut Cursor<'_>,
+    version: StateVersion,
+    clock: u64,
     inventory: &Inventory,
 ) -> Result<Vec<Object>, StateCause>
-    ensures { Gives (λ os. (os.items, cursor.new.rest)) cursor.new.last result (many_at (next_known inventory.now.objects) (length inventory.now.objects) [] cursor.old.rest) }
+    ensures read { Gives (λ os. (os.items, cursor.new.rest)) cursor.new.last result (many_at (next_known version clock inventory.now.objects) (length inventory.now.objects) [] cursor.old.rest) }
+    ensures first { version ≡ One → IfOk result (λ os. map (upgraded_object clock) os.items ≡ os.items) }
 {
     let mut objects = Vec::new(alloc);
     for spec in inventory.objects() {
-        objects.push(read_known(alloc, cursor, spec)?)?;
+        objects.push(read_known(alloc, cursor, version, clock, spec)?)?;
     }
     Ok(objects)
 }
@@ -87,20 +92,22 @@ fn read_downtimes(
     Ok(downtimes)
 }
 
-/// Reads the parts from the text of a state after its heading, up to its line `end`, which is not read here. Whether
-/// entries can have led to the parts is not tested here.
-#[tactic(auto, unfolding(crate::specs::Reading::world_at))]
+/// Reads the parts from the text of a state of this version after its heading, up to its line `end`, which is not read
+/// here. Whether the parts fit the inventory is not tested here.
+#[tactic(auto, unfolding(crate::specs::Reading::world_at, crate::specs::Upgrade::upgrade))]
 fn read_parts(
     alloc: Global,
     cursor: &mut Cursor<'_>,
+    version: StateVersion,
     inventory: &Inventory,
 ) -> Result<Parts, StateCause>
-    ensures { Gives (λ p. p) cursor.new.last result (world_at inventory.now cursor.old.rest) }
+    ensures read { Gives (λ p. p) cursor.new.last result (world_at version inventory.now cursor.old.rest) }
+    ensures first { version ≡ One → IfOk result (λ p. upgrade p ≡ p) }
 {
     let clock = cursor.count(b"clock;")?;
     let before = cursor.count(b"entries;")?;
     let program = read_program(cursor)?;
-    let objects = read_objects(alloc, cursor, inventory)?;
+    let objects = read_objects(alloc, cursor, version, clock, inventory)?;
     let contacts = read_contacts(alloc, cursor, inventory)?;
     cursor.expect(b"comments;")?;
     let last_comment = cursor.number(b';')?;
@@ -120,17 +127,22 @@ fn read_parts(
     })
 }
 
-/// Writes the state of the monitor and compares it with `text`. Returns the first line that differs with
+/// Writes the state of the monitor in this version and compares it with `text`. Returns the first line that differs with
 /// `NotAsWritten`; if memory runs out, `Memory` with line 1.
-fn compare_with_text(alloc: Global, monitor: &Monitor, text: &[u8]) -> Result<(), StateFault>
+fn compare_with_text(
+    alloc: Global,
+    version: StateVersion,
+    monitor: &Monitor,
+    text: &[u8],
+) -> Result<(), StateFault>
     requires { monitor.now.broken ≡ false }
-    ensures ok { OnOk result (text.now ≡ state_text monitor.now.inventory monitor.now.world) }
-    ensures err { IfErr result (λ f. f.cause ≢ ACause.Memory → text.now ≢ state_text monitor.now.inventory monitor.now.world) }
-    ensures first { IfErr result (λ f. IsOtherText (state_text monitor.now.inventory monitor.now.world) text.now f) }
+    ensures ok { OnOk result (text.now ≡ text_of version monitor.now.inventory monitor.now.world) }
+    ensures err { IfErr result (λ f. f.cause ≢ ACause.Memory → text.now ≢ text_of version monitor.now.inventory monitor.now.world) }
+    ensures first { IfErr result (λ f. IsOtherText (text_of version monitor.now.inventory monitor.now.world) text.now f) }
     ensures known { IfErr result (λ f. f.cause ≢ ACause.UnknownVersion) }
 {
     let mut written = Vec::new(alloc);
-    if write_state(monitor, &mut written).is_err() {
+    if put_state(&mut written, version, monitor).is_err() {
         return Err(StateFault {
             line: 1,
             cause: StateCause::Memory,
@@ -146,12 +158,15 @@ fn compare_with_text(alloc: Global, monitor: &Monitor, text: &[u8]) -> Result<()
 }
 
 /// Reads a state, as [`write_state`](crate::write_state) writes it, and makes the monitor of the inventory that resumes
-/// from it: it counts its entries from 0, and lists no rejection and no notice (profile). Any other text is refused,
-/// with the line in which the first faulty field begins, or with the first line that would be written differently.
-/// Where it returns an error, the inventory is dropped. The memory that it takes is linear in the length of the text.
+/// from it: it counts its entries from 0, and lists no rejection and no notice (profile). A state of version 1 is read too:
+/// its objects were never checked, and are as they are since its clock. Any other text is refused,
+/// with the line in which the first faulty field begins; else with the line of the first part that does not fit the
+/// inventory (see [`Misfit`](mon_engine::Misfit)); else with the first line that would be written differently. Where it
+/// returns an error, the inventory is dropped. The memory that it takes is linear in the length of the text.
 ///
 /// # Errors
-/// The line, counted from 1, and the [`StateCause`]; it is [`StateCause::Memory`] if memory runs out.
+/// The line, counted from 1, and the [`StateCause`]; it is [`StateCause::Memory`] if memory runs out, which it does only
+/// behind a heading of a known version.
 ///
 /// ```
 /// // state: what write_state wrote of a monitor of INVENTORY
@@ -167,7 +182,7 @@ pub fn read_state(alloc: Global, inventory: Inventory, text: &[u8]) -> Result<Mo
     ensures unknown { IsOfUnknownVersion text.now → IsErrAnd result (λ f. f.cause ≡ ACause.UnknownVersion) }
     ensures inventory { IfOk result (λ m. m.inventory ≡ inventory) }
     // No other text is read.
-    ensures text { IfOk result (λ m. text.now ≡ state_text inventory m.world) }
+    ensures text { IfOk result (λ m. IsStateText inventory text.now m.world) }
     ensures saved { IfOk result (λ m. IsSaved inventory m.world) }
     ensures anew { IfOk result (λ m. m.world.entries ≡ 0) }
     ensures applied { IfOk result (λ m. m.applied ≡ 0) }
@@ -178,23 +193,24 @@ pub fn read_state(alloc: Global, inventory: Inventory, text: &[u8]) -> Result<Mo
     ensures first { IfErr result (λ f. IsStateFault inventory text.now f) }
 {
     match read_heading(text) {
-        Ok((StateVersion::One, rest)) => read_first(alloc, inventory, text, rest),
+        Ok((version, rest)) => read_behind(alloc, inventory, text, version, rest),
         Err(cause) => Err(StateFault { line: 1, cause }),
     }
 }
 
-/// Reads a state of the first version; `text` is its whole text, and `rest` the text after its heading. For its results
-/// see [`read_state`].
-fn read_first(
+/// Reads a state of this version; `text` is its whole text, and `rest` the text after its heading. For its results see
+/// [`read_state`].
+fn read_behind(
     alloc: Global,
     inventory: Inventory,
     text: &[u8],
+    version: StateVersion,
     rest: &[u8],
 ) -> Result<Monitor, StateFault>
-    requires { version_at text.now ≡ Ok (One, rest.now) }
+    requires { version_at text.now ≡ Ok (version, rest.now) }
     ensures known { IfErr result (λ f. f.cause ≢ ACause.UnknownVersion) }
     ensures inventory { IfOk result (λ m. m.inventory ≡ inventory) }
-    ensures text { IfOk result (λ m. text.now ≡ state_text inventory m.world) }
+    ensures text { IfOk result (λ m. IsStateText inventory text.now m.world) }
     ensures saved { IfOk result (λ m. IsSaved inventory m.world) }
     ensures anew { IfOk result (λ m. m.world.entries ≡ 0) }
     ensures applied { IfOk result (λ m. m.applied ≡ 0) }
@@ -205,7 +221,7 @@ fn read_first(
     let objects = inventory.object_count();
     let contacts = inventory.contact_count();
     let mut cursor = Cursor::new(rest);
-    let parts = match read_parts(alloc, &mut cursor, &inventory) {
+    let parts = match read_parts(alloc, &mut cursor, version, &inventory) {
         Ok(parts) => parts,
         Err(cause) => {
             let read = text.len().saturating_sub(cursor.last_left());
@@ -215,7 +231,11 @@ fn read_first(
             });
         }
     };
-    let heads = Heads::of(objects, contacts, parts.comments.len());
+    let counts = Counts {
+        objects,
+        contacts,
+        comments: parts.comments.len(),
+    };
     let monitor = match Monitor::resume(alloc, inventory, parts) {
         Ok(monitor) => monitor,
         Err(ResumeFault::Memory) => {
@@ -226,11 +246,11 @@ fn read_first(
         }
         Err(ResumeFault::Misfit(misfit)) => {
             return Err(StateFault {
-                line: heads.line_of(misfit),
+                line: counts.line_of(misfit),
                 cause: StateCause::BadValue,
             });
         }
     };
-    compare_with_text(alloc, &monitor, text)?;
+    compare_with_text(alloc, version, &monitor, text)?;
     Ok(monitor)
 }

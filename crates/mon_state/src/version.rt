@@ -14,12 +14,14 @@ use cmd_types::cut;
 /// See the example of [`StateFault`].
 #[derive(Clone, Copy)]
 pub enum StateVersion {
-    /// The text of `specs/State.antt`.
+    /// Without the moments of objects; it is read, and not written.
     One,
+    /// With them: the text that is written.
+    Two,
 }
 
 /// All versions.
-const VERSIONS: [StateVersion; 1] = [StateVersion::One];
+const VERSIONS: [StateVersion; 2] = [StateVersion::One, StateVersion::Two];
 
 impl StateVersion {
     /// The number of this version in the heading.
@@ -28,6 +30,7 @@ impl StateVersion {
     {
         match self {
             StateVersion::One => 1,
+            StateVersion::Two => 2,
         }
     }
 

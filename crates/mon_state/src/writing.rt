@@ -5,10 +5,9 @@ ghost use Rattle.std.specs.List.{flat_map};
 ghost use Rattle.cmd_types.specs.Growth.{Grows};
 ghost use Rattle.mon_engine.specs.Report.{clock_line, program_line, or_empty};
 ghost use Rattle.mon_downtime.specs.Events.{active_since};
-ghost use Rattle.mon_state.specs.declared.version.StateVersion.TheVariants.{One};
-ghost use Rattle.mon_state.specs.State.{heading_line, entries_line, comments_line, comment_line_of, comment_line, fate_word, active_until, downtimes_line, downtime_line_of, downtime_line, end_line, line_count, state_text};
+ghost use Rattle.mon_state.specs.State.{heading_line, entries_line, comments_line, comment_line_of, comment_line, fate_word, active_until, downtimes_line, downtime_line_of, downtime_line, end_line, line_count, text_of, state_text};
 
-use crate::appending::{optional, put};
+use crate::appending::put;
 use crate::named_lines::{put_contacts, put_objects};
 use crate::version::StateVersion;
 use cmd_types::Memory;
@@ -134,8 +133,8 @@ fn put_downtime_on<'a>(
             Field::Number(downtime.plan.times.duration),
             Field::Number(downtime.entered),
             Field::Bytes(fate_word(downtime.fate)),
-            optional(active_since(downtime.fate)),
-            optional(active_until(downtime.fate)),
+            Field::optional(active_since(downtime.fate)),
+            Field::optional(active_until(downtime.fate)),
             Field::Bytes(downtime.plan.author.as_bytes()),
             Field::Bytes(downtime.plan.text.as_bytes()),
         ],
@@ -169,12 +168,17 @@ fn put_downtimes(
 }
 
 /// Appends the heading, and the lines of the clock, of the entries and of the program.
-fn put_head(out: &mut Vec<u8>, clock: u64, entries: u64, program: Program) -> Result<(), Memory>
-    ensures ok { OnOk result (out.new.items ≡ out.old.items ++ heading_line One ++ clock_line clock ++ entries_line entries ++ program_line program) }
+fn put_head(
+    out: &mut Vec<u8>,
+    version: StateVersion,
+    clock: u64,
+    entries: u64,
+    program: Program,
+) -> Result<(), Memory>
+    ensures ok { OnOk result (out.new.items ≡ out.old.items ++ heading_line version ++ clock_line clock ++ entries_line entries ++ program_line program) }
     ensures grown { Grows out.old.items out.new.items }
 {
-    let version = StateVersion::One.number();
-    put(out, b"state", &[Field::Number(version)])?;
+    put(out, b"state", &[Field::Number(version.number())])?;
     put(out, b"clock", &[Field::Number(clock)])?;
     put(out, b"entries", &[Field::Number(entries)])?;
     put(
@@ -238,18 +242,18 @@ fn line_count(monitor: &Monitor) -> u64
     6 + named + monitor.comments().len() as u64 + monitor.downtimes().len() as u64
 }
 
-/// Appends all lines of the state, from the heading to the line `end`.
-#[tactic(auto, unfolding(crate::specs::State::state_text))]
-fn put_state(out: &mut Vec<u8>, monitor: &Monitor) -> Result<(), Memory>
+/// Appends all lines of the state in this version, from the heading to the line `end`.
+#[tactic(auto, unfolding(crate::specs::State::text_of))]
+pub fn put_state(out: &mut Vec<u8>, version: StateVersion, monitor: &Monitor) -> Result<(), Memory>
     requires { monitor.now.broken ≡ false }
-    ensures ok { OnOk result (out.new.items ≡ out.old.items ++ state_text monitor.now.inventory monitor.now.world) }
+    ensures ok { OnOk result (out.new.items ≡ out.old.items ++ text_of version monitor.now.inventory monitor.now.world) }
     ensures grown { Grows out.old.items out.new.items }
 {
     let inventory = monitor.inventory();
     let entries = monitor.entries_ever();
     let count = line_count(monitor);
-    put_head(out, monitor.clock(), entries, monitor.program())?;
-    put_objects(out, inventory, monitor.objects())?;
+    put_head(out, version, monitor.clock(), entries, monitor.program())?;
+    put_objects(out, version, inventory, monitor.objects())?;
     put_contacts(out, inventory, monitor.contacts())?;
     put_notes(out, inventory, monitor.last_comment(), monitor.comments())?;
     put_schedule(out, inventory, monitor.downtimes(), count)
@@ -267,7 +271,7 @@ fn put_state(out: &mut Vec<u8>, monitor: &Monitor) -> Result<(), Memory>
 /// let mut state = Vec::new(alloc);
 /// assert!(rt; !monitor.is_broken());
 /// write_state(&monitor, &mut state)?;
-/// assert!(rt; state.starts_with(b"state;1\nclock;0\n"));
+/// assert!(rt; state.starts_with(b"state;2\nclock;0\n"));
 /// ```
 pub fn write_state(monitor: &Monitor, out: &mut Vec<u8>) -> Result<(), Memory>
     requires { monitor.now.broken ≡ false }
@@ -275,7 +279,7 @@ pub fn write_state(monitor: &Monitor, out: &mut Vec<u8>) -> Result<(), Memory>
     ensures err { OnErr result (out.new.items ≡ out.old.items) }
 {
     let len = out.len();
-    if let Err(refusal) = put_state(out, monitor) {
+    if let Err(refusal) = put_state(out, StateVersion::Two, monitor) {
         out.truncate(len);
         return Err(refusal);
     }

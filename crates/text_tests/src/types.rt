@@ -19,7 +19,7 @@ fn text(rt: &(impl Abort + AllocGlobal), bytes: &[u8]) -> Text {
 }
 
 #[test]
-fn a_host_with_a_semicolon_is_handed_back(rt: HostRuntime) {
+fn a_host_with_a_semicolon_is_returned(rt: HostRuntime) {
     let host = text(&rt, b"a;b");
     match Stamped::new(7, Command::DelAllHostComments { host }) {
         Err((time, Command::DelAllHostComments { host })) => {

@@ -76,7 +76,7 @@ fn sees_five(board: &mut BoardReader) -> bool {
 }
 
 impl Feed for Half<'_> {
-    ghost tells = { λ _. None };
+    ghost remaining = { λ _. None };
 
     ghost fails = { λ _. true };
 

@@ -39,7 +39,7 @@ struct PieceFeed {
 }
 
 impl Feed for PieceFeed {
-    ghost tells = { λ _. None };
+    ghost remaining = { λ _. None };
 
     ghost fails = { λ _. true };
 
@@ -90,7 +90,7 @@ struct Counted<'a> {
 }
 
 impl Feed for Counted<'_> {
-    ghost tells = { λ _. None };
+    ghost remaining = { λ _. None };
 
     ghost fails = { λ _. true };
 

@@ -1,5 +1,11 @@
 //! Runs that print while they run: how much is printed, by which teller, and when.
-ghost use Rattle.std.specs.Prelude.{◌≡◌, Some, IfOk, length};
+ghost use Rattle.std.specs.Prelude.{◌≡◌, ℕ, List, Option, Some, IfOk, length};
+ghost use Rattle.cmd_types.specs.declared.entry.Entry.{Entry};
+ghost use Rattle.cmd_journal.specs.Journals.{IsJournal};
+ghost use Rattle.mon_inventory.specs.Configuration.{Configuration};
+ghost use Rattle.mon_engine.specs.World.{initial};
+ghost use Rattle.mon_engine.specs.Telling.{told_text};
+ghost use Rattle.cmd_dispatch.specs.Delivered.{BeginsWith};
 
 use super::{Fail, Gated, OPTIONS, Told, check_sender, feeds, inventory};
 use crate::{
@@ -31,7 +37,7 @@ pub(super) struct Recording {
 }
 
 impl Attendant for Recording {
-    ghost has_told = { λ _ _. Unit {0} };
+    ghost has_taken = { λ _ _. Unit {0} };
 
     fn refuse(&mut self, line: u64, fault: LineFault) -> Result<(), Memory> {
         self.calls.push(AttendantCall::Refuse(line, fault))?;
@@ -69,7 +75,8 @@ pub(super) fn attendants(alloc: Global, count: usize) -> Result<Vec<Recording>, 
     Ok(all)
 }
 
-/// A teller that keeps the text and the cause of the failure, and shows the number of texts it took.
+/// A teller that keeps the text and the cause of the failure, and shows the number of texts it took. It allows no text
+/// but the first bytes of what some journal prints.
 #[derive(Drop)]
 struct KeepingTeller<'a> {
     text: Vec<u8>,
@@ -80,7 +87,8 @@ struct KeepingTeller<'a> {
 impl Teller for KeepingTeller<'_> {
     ghost told = { λ keeping. Some keeping.text.items };
 
-    ghost allows = { λ _. Unit {0} };
+    ghost allows = { λ text. (inv : Configuration) × (clock : Option ℕ) × (journal : List Entry)
+        × IsJournal journal × BeginsWith (told_text inv clock (initial inv) journal) text };
 
     ghost has_failed = { Unit {0} };
 

@@ -79,8 +79,7 @@ fn a_board_and_its_reader_are_made_again(rt: HostRuntime) -> Result<(), Fail> {
 }
 
 /// Whether the number of entries that a reader shows never falls over `times` looks.
-fn never_falls(reader: BoardReader, times: u32) -> bool {
-    let mut reader = reader;
+fn never_falls(mut reader: BoardReader, times: u32) -> bool {
     let mut last = 0;
     for _ in 0..times {
         let entries = reader.look().entries;
@@ -125,8 +124,7 @@ fn a_thread_looks_while_three_feeds_are_run(rt: HostRuntime) -> Result<(), Fail>
 }
 
 /// Stores in `shown` the number of entries that a reader shows, until that is `all` or the run is over.
-fn tell(reader: BoardReader, shown: &AtomicU32, all: u32, over: &AtomicBool) {
-    let mut reader = reader;
+fn store_shown(mut reader: BoardReader, shown: &AtomicU32, all: u32, over: &AtomicBool) {
     for _ in 0..u64::MAX {
         let entries = reader.look().entries;
         shown.store(entries, Ordering::SeqCst);
@@ -177,7 +175,7 @@ fn check_gated<R: Abort + Threads + Wait + Sync>(
     thread::scope(thread::scope_env(), rt, move |scope| -> Result<(), Fail> {
         let (inventory, mut writer, reader) = board_and_reader(alloc)?;
         let telling = scope
-            .spawn(move || tell(reader, shown, lines, over))
+            .spawn(move || store_shown(reader, shown, lines, over))
             .ok()
             .ok_or("no thread")?;
         let run = run_gated(rt, alloc, shown, lines, inventory, &mut writer);

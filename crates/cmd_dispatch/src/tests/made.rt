@@ -17,7 +17,7 @@ struct Maker {
 }
 
 impl Feed for Maker {
-    ghost tells = { λ _. None };
+    ghost remaining = { λ _. None };
 
     ghost fails = { λ _. true };
 

@@ -6,7 +6,8 @@ ghost use Rattle.std.specs.Prelude.{◌≡◌, ◌<◌, ◌≤◌, [], IfOk, vec
 ghost use Rattle.cmd_queue.specs.Queue.{IsNewQueue};
 
 use cmd_queue::{
-    ClosedSender, DispatcherSide, Lost, MOST_TOGETHER, QueueFault, SenderSide, Taken, queue, settle,
+    ClosedSender, DispatcherSide, Lost, MOST_TOGETHER, Planning, QueueFault, SenderSide, Taken,
+    planned_queue, queue, settle,
 };
 use cmd_types::{Command, Stamped};
 use std::alloc::Global;
@@ -142,18 +143,17 @@ fn take<R: Wait>(rt: &R, dispatcher: &mut DispatcherSide) -> Option<Next>
 }
 
 /// Settles one end. Returns the number of commands of the first sender that were taken.
-fn settled_one(ends: Vec<ClosedSender>, dispatcher: DispatcherSide, end: ClosedSender) -> u64
+fn settled_one(mut ends: Vec<ClosedSender>, dispatcher: DispatcherSide, end: ClosedSender) -> u64
     requires room { (ends.items ≡ []) × (2 ≤ vec_capacity ends) }
     requires queue { (end.queue ≡ dispatcher.queue) × (0 < dispatcher.senders) }
 {
-    let mut ends = ends;
     ends.push_reserved(end);
     settle(dispatcher, ends).count(0)
 }
 
 /// Settles two ends, the later sender's first. Returns the number of commands of each that were taken.
 fn settled(
-    ends: Vec<ClosedSender>,
+    mut ends: Vec<ClosedSender>,
     dispatcher: DispatcherSide,
     zero: ClosedSender,
     one: ClosedSender,
@@ -161,7 +161,6 @@ fn settled(
     requires room { (ends.items ≡ []) × (2 ≤ vec_capacity ends) }
     requires queue { (zero.queue ≡ dispatcher.queue) × (one.queue ≡ dispatcher.queue) × (dispatcher.senders ≡ 2) }
 {
-    let mut ends = ends;
     ends.push_reserved(one);
     ends.push_reserved(zero);
     let settled = settle(dispatcher, ends);
@@ -239,15 +238,13 @@ fn the_first_fault_is_told(rt: HostRuntime) -> Result<(), Fail> {
 fn leaves<R: Wait + Abort>(
     rt: &R,
     ends: Vec<ClosedSender>,
-    side: SenderSide,
-    dispatcher: DispatcherSide,
+    mut side: SenderSide,
+    mut dispatcher: DispatcherSide,
 )
     requires room { (ends.items ≡ []) × (2 ≤ vec_capacity ends) }
     requires queue { (side.queue ≡ dispatcher.queue) × (dispatcher.senders ≡ 2) }
     requires free { dispatcher.queue.plan ≡ [] }
 {
-    let mut side = side;
-    let mut dispatcher = dispatcher;
     assert_eq!(rt; (side.sent(), send(rt, &mut side, 5)), (0, Some(Ok(1))));
     let left = side.leave();
     assert_eq!(rt; end_of(&left), (0, 1, false));
@@ -286,11 +283,10 @@ impl Promise<ClosedSender> for SameQueue {
 }
 
 /// Sends commands at the times 1 to 100 while the queue takes them, and closes.
-fn send_a_hundred<R: Wait>(rt: &R, side: SenderSide) -> ClosedSender
+fn send_a_hundred<R: Wait>(rt: &R, mut side: SenderSide) -> ClosedSender
     requires { side.queue.plan ≡ [] }
     ensures { result.queue ≡ side.queue }
 {
-    let mut side = side;
     for time in 1..101u64 {
         let _ = send(rt, &mut side, time);
     }
@@ -361,5 +357,39 @@ fn two_threads_send_a_hundred_each(rt: HostRuntime) -> Result<(), Fail> {
     let (zero, one) = (first.join(&rt), second.join(&rt));
     assert_eq!(rt; taken, Ok(()));
     assert_eq!(rt; settled(ends, dispatcher, zero, one), (100, 100));
+    Ok(())
+}
+
+/// The plan of a queue whose one sender may send one command, a restart at time 7.
+struct OneRestart;
+
+impl Planning for OneRestart {
+    ghost use Rattle.std.specs.Prelude.{Some, [], ◌∷◌};
+    ghost use Rattle.cmd_types.specs.declared.command.Command.TheVariants.{RestartProgram};
+
+    ghost plan = { Some (record { time = 7; command = RestartProgram } ∷ []) ∷ [] };
+}
+
+/// A queue of one sender and this plan, made again where an allocation is refused.
+fn planned<J: Planning, R>(rt: &R, alloc: Global) -> Result<(Vec<SenderSide>, DispatcherSide), Fail>
+    ensures made { IfOk result (λ q. IsNewQueue 1 q.0.items q.1) }
+    ensures planned { IfOk result (λ q. q.1.queue.plan ≡ J.plan) }
+{
+    match planned_queue::<J, R>(rt, alloc, 1, 4) {
+        Ok(first) => Ok(first),
+        Err(QueueFault::Memory) => Ok(planned_queue::<J, R>(rt, alloc, 1, 4)?),
+        Err(fault) => Err(Fail::from(fault)),
+    }
+}
+
+#[test]
+fn a_sender_of_a_plan_sends_what_it_has(rt: HostRuntime) -> Result<(), Fail> {
+    let Ok(stamped) = Stamped::new(7, Command::RestartProgram) else {
+        return Err(Fail::new("it has no text"));
+    };
+    let (mut sides, mut dispatcher) = planned::<OneRestart, _>(&rt, rt.alloc())?;
+    assert_eq!(rt; sides[0].sent(), 0);
+    assert!(rt; sides[0].submit(&rt, stamped).is_ok());
+    assert_eq!(rt; take(&rt, &mut dispatcher), Some((0, 1, Some(7))));
     Ok(())
 }

@@ -274,7 +274,7 @@ fn a_reader_fails_after_each_byte(rt: HostRuntime) -> Result<(), Fail> {
 struct Endless;
 
 impl Feed for Endless {
-    ghost tells = { λ _. None };
+    ghost remaining = { λ _. None };
 
     ghost fails = { λ _. false };
 

@@ -85,7 +85,7 @@ fn a_new_directory_begins_with_a_state(rt: HostRuntime) -> Result<(), Fail> {
     assert!(rt; state.starts_with(INVENTORY));
     assert!(rt;
         state[INVENTORY.len()..].starts_with(
-            b"---\nfeeds;2;3\nfeed;0;0;0;a\nlast;\nfeed;1;0;0;b\nlast;\nfeed;2;0;0;\nlast;\nstate;1\nclock;0\nentries;0\n"
+            b"---\nfeeds;2;3\nfeed;0;0;0;a\nlast;\nfeed;1;0;0;b\nlast;\nfeed;2;0;0;\nlast;\nstate;2\nclock;0\nentries;0\n"
         )
     );
     let [segment] = left.segments() else {

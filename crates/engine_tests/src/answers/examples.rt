@@ -246,7 +246,7 @@ fn a_run_that_failed(rt: HostRuntime) -> Result<(), Fail> {
 fn stops(rt: HostRuntime) -> Result<(), Fail> {
     let alloc = rt.alloc();
     let mut errors = Vec::new(alloc);
-    assert!(rt; Stop::Feeds.tell(&mut errors).is_ok());
+    assert!(rt; Stop::Feeds.print(&mut errors).is_ok());
     assert_eq!(rt; errors.as_slice(), b"gateway: feeds\n".as_slice());
     assert_eq!(rt; Stop::Feeds.status(), 2);
     Ok(())
@@ -257,7 +257,7 @@ fn stops_of_a_state_directory(rt: HostRuntime) -> Result<(), Fail> {
     let alloc = rt.alloc();
     let mut errors = Vec::new(alloc);
     let stop = Stop::State(StateStop::AtStart(StateWord::InUse));
-    assert!(rt; stop.tell(&mut errors).is_ok());
+    assert!(rt; stop.print(&mut errors).is_ok());
     assert_eq!(rt; errors.as_slice(), b"gateway: state in use\n".as_slice());
     assert_eq!(rt; stop.status(), 2);
     Ok(())
@@ -268,7 +268,7 @@ fn stops_of_a_line_of_a_state_directory(rt: HostRuntime) -> Result<(), Fail> {
     let alloc = rt.alloc();
     let mut errors = Vec::new(alloc);
     let stop = Stop::State(StateStop::JournalLine { line: 3, cause: 8 });
-    assert!(rt; stop.tell(&mut errors).is_ok());
+    assert!(rt; stop.print(&mut errors).is_ok());
     assert_eq!(rt;
         errors.as_slice(),
         b"gateway: state journal line 3: 8\n".as_slice()
@@ -282,7 +282,7 @@ fn stops_of_files(rt: HostRuntime) -> Result<(), Fail> {
     let alloc = rt.alloc();
     let mut errors = Vec::new(alloc);
     let stop = FilesStop::Open("checks");
-    assert!(rt; stop.tell(&mut errors).is_ok());
+    assert!(rt; stop.print(&mut errors).is_ok());
     assert_eq!(rt; errors.as_slice(), b"gateway: open checks\n".as_slice());
     assert_eq!(rt; stop.status(), 2);
     Ok(())
@@ -296,7 +296,7 @@ fn ends_of_calls(rt: HostRuntime) -> Result<(), Fail> {
     assert_eq!(rt; errors.as_slice(), b"gateway: feeds\n".as_slice());
     let wanted = Ended {
         status: 2,
-        told: true,
+        printed: true,
     };
     assert_eq!(rt; ended, wanted);
     Ok(())

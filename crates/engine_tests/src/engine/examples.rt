@@ -148,6 +148,7 @@ fn objects(rt: HostRuntime) -> Result<(), Fail> {
     };
     assert!(rt; matches!(web.acknowledgement, Acknowledgement::Unacknowledged));
     assert_eq!(rt; (web.number, web.last), (0, None));
+    assert_eq!(rt; web.moments.since, None);
     Ok(())
 }
 
@@ -198,7 +199,7 @@ fn state(rt: HostRuntime) -> Result<(), Fail> {
     let mut state = Vec::new(alloc);
     assert!(rt; !monitor.is_broken());
     write_state(&monitor, &mut state)?;
-    assert!(rt; state.starts_with(b"state;1\nclock;0\n"));
+    assert!(rt; state.starts_with(b"state;2\nclock;0\n"));
     // state: what write_state wrote of a monitor of INVENTORY
     let inventory = Inventory::parse(alloc, INVENTORY)?;
     let Ok(monitor) = read_state(alloc, inventory, &state) else {
@@ -213,11 +214,11 @@ fn state_fault(rt: HostRuntime) -> Result<(), Fail> {
     let alloc = rt.alloc();
     // INVENTORY: the text of an inventory with the host web
     let inventory = Inventory::parse(alloc, INVENTORY)?;
-    let Err(fault) = read_state(alloc, inventory, b"state;2\n") else {
+    let Err(fault) = read_state(alloc, inventory, b"state;3\n") else {
         return Err(Fail::new("it has another version"));
     };
     assert_eq!(rt; (fault.line, fault.cause), (1, StateCause::UnknownVersion));
-    assert!(rt; StateVersion::of_number(2).is_none());
+    assert!(rt; StateVersion::of_number(3).is_none());
     Ok(())
 }
 

@@ -319,7 +319,7 @@ notice;220;PROBLEM;web;http;CRITICAL;1;ann
 notice;820;PROBLEM;web;http;CRITICAL;2;bob
 ";
 
-/// Tells what an entry came to, of the clock its notices alone.
+/// Writes what an entry came to, of the clock its notices alone.
 fn tell_of(
     alloc: Global,
     rt: &impl Abort,
@@ -335,7 +335,7 @@ fn tell_of(
     }
 }
 
-/// What a monitor tells after each entry. After it ran out of memory nothing was appended or forgotten, and the same
+/// What a monitor has to print after each entry. After it ran out of memory nothing was appended or forgotten, and the same
 /// call continues.
 fn told_one_by_one(
     alloc: Global,

@@ -3,7 +3,7 @@ use super::{
     WEB, append_report, append_state, apply, compare, first_monitor, inventory_of, journaled,
 };
 use cmd_types::{Entry, Memory};
-use mon_engine::Monitor;
+use mon_engine::{Moments, Monitor};
 use mon_state::{StateCause, StateFault, read_feeds, read_state};
 use std::alloc::Global;
 use std::process::Abort;
@@ -22,7 +22,24 @@ const BEFORE: &[u8] = b"[100] PROCESS_SERVICE_CHECK_RESULT;web;http;2;disk full
 [550] DELAY_HOST_NOTIFICATION;web;2000
 ";
 
-const STATE: &[u8] = b"state;1
+const STATE: &[u8] = b"state;2
+clock;550
+entries;9
+program;1;1;1
+host;web;0;1;1;0;0;;;2000;1;1;;0;;
+service;web;http;2;1;3;2;1;300;2;;1;1;300;100;300;disk full
+contact;ann;1;1
+contact;bob;1;1
+comments;2;1
+comment;1;1;web;http;1;1;400;ann;on it
+downtimes;2
+downtime;1;1;web;http;500;600;1;0;0;430;active;500;600;ann;move
+downtime;2;1;web;http;450;900;0;1;120;440;active;500;620;ann;after
+end;13
+";
+
+/// The same in version 1, which has no moments of objects.
+const FIRST_STATE: &[u8] = b"state;1
 clock;550
 entries;9
 program;1;1;1
@@ -43,7 +60,7 @@ const AFTER: &[u8] = b"[700] PROCESS_SERVICE_CHECK_RESULT;web;http;0;fine
 [800] ADD_SVC_COMMENT;web;http;1;bob;done
 ";
 
-/// Applies the entries, and forgets what is told of them.
+/// Applies the entries, and forgets their notices and rejections.
 fn run(
     rt: &impl Abort,
     alloc: Global,
@@ -102,6 +119,39 @@ fn monitor_goes_on(rt: HostRuntime) -> Result<(), Fail> {
     Ok(())
 }
 
+/// The moments of the host and of its service.
+fn moments(monitor: &Monitor) -> Option<(Moments, Moments)> {
+    match monitor.objects() {
+        [web, http] => Some((web.moments, http.moments)),
+        _ => None,
+    }
+}
+
+#[test]
+fn a_state_of_version_1_is_upgraded(rt: HostRuntime) -> Result<(), Fail> {
+    let alloc = rt.alloc();
+    let inventory = inventory_of(&rt, alloc, WEB)?;
+    let Ok(monitor) = read_state(alloc, inventory, FIRST_STATE) else {
+        return Err(Fail::new("the state is whole"));
+    };
+    let fine = Moments {
+        checked: None,
+        changed: 550,
+        since: None,
+    };
+    let problem = Moments {
+        checked: None,
+        changed: 550,
+        since: Some(550),
+    };
+    assert_eq!(rt; moments(&monitor), Some((fine, problem)));
+    let uninterrupted = before(&rt, alloc)?;
+    let found = report_after(&rt, alloc, monitor)?;
+    let wanted = report_after(&rt, alloc, uninterrupted)?;
+    compare(&rt, "report", &found, &wanted);
+    Ok(())
+}
+
 /// A state with one piece in the place of another, and where and why it is refused.
 struct StateRow {
     old: &'static [u8],
@@ -112,31 +162,31 @@ struct StateRow {
 
 const REFUSED: &[StateRow] = &[
     StateRow {
-        old: b"state;1",
-        new: b"state;2",
+        old: b"state;2",
+        new: b"state;3",
         line: 1,
         cause: StateCause::UnknownVersion,
     },
     StateRow {
-        old: b"state;1",
-        new: b"state;11",
+        old: b"state;2",
+        new: b"state;22",
         line: 1,
         cause: StateCause::UnknownVersion,
     },
     StateRow {
-        old: b"state;1",
-        new: b"state;01",
+        old: b"state;2",
+        new: b"state;02",
         line: 1,
         cause: StateCause::NotAsWritten,
     },
     StateRow {
-        old: b"state;1",
+        old: b"state;2",
         new: b"state;x",
         line: 1,
         cause: StateCause::BadLine,
     },
     StateRow {
-        old: b"state;1\n",
+        old: b"state;2\n",
         new: b"",
         line: 1,
         cause: StateCause::BadLine,
@@ -201,6 +251,26 @@ const REFUSED: &[StateRow] = &[
         line: 6,
         cause: StateCause::NotAsWritten,
     },
+    // The beginning of a hard problem is missing, and one of no problem is there.
+    StateRow {
+        old: b"300;100;300;disk full",
+        new: b"300;100;;disk full",
+        line: 6,
+        cause: StateCause::BadValue,
+    },
+    StateRow {
+        old: b"2000;1;1;;0;;",
+        new: b"2000;1;1;;0;9;",
+        line: 5,
+        cause: StateCause::BadValue,
+    },
+    // The text of version 1 under the heading of version 2.
+    StateRow {
+        old: b"2000;1;1;;0;;",
+        new: b"2000;1;1;",
+        line: 5,
+        cause: StateCause::BadLine,
+    },
     StateRow {
         old: b"comment;1;1",
         new: b"comment;3;1",
@@ -218,6 +288,73 @@ const REFUSED: &[StateRow] = &[
         new: b"downtime;3;1",
         line: 13,
         cause: StateCause::BadValue,
+    },
+    StateRow {
+        old: b"entries;9",
+        new: b"entries;1099511627776",
+        line: 3,
+        cause: StateCause::BadValue,
+    },
+    StateRow {
+        old: b"comments;2;1",
+        new: b"comments;10;1",
+        line: 9,
+        cause: StateCause::BadValue,
+    },
+    // Of two wrong values the first is the fault: a clock before the entries,
+    StateRow {
+        old: b"clock;550\nentries;9",
+        new: b"clock;1099511627776\nentries;1099511627776",
+        line: 2,
+        cause: StateCause::BadValue,
+    },
+    // an attempt before a comment's id,
+    StateRow {
+        old: b"2;1;3;2;1;300;2;;1;1;300;100;300;disk full\ncontact;ann;1;1\ncontact;bob;1;1\ncomments;2;1\ncomment;1;1",
+        new: b"2;1;4;2;1;300;2;;1;1;300;100;300;disk full\ncontact;ann;1;1\ncontact;bob;1;1\ncomments;2;1\ncomment;3;1",
+        line: 6,
+        cause: StateCause::BadValue,
+    },
+    // a comment's time before the id of the next comment,
+    StateRow {
+        old: b"comments;2;1\ncomment;1;1;web;http;1;1;400;ann;on it\n",
+        new: b"comments;2;2\ncomment;1;1;web;http;1;1;1099511627776;ann;on it\ncomment;1;1;web;http;1;1;400;ann;on it\n",
+        line: 10,
+        cause: StateCause::BadValue,
+    },
+    // and an author in two lines before the id of the next downtime.
+    StateRow {
+        old: b"500;600;ann;move\ndowntime;2;1",
+        new: b"500;600;an\nn;move\ndowntime;3;1",
+        line: 12,
+        cause: StateCause::BadLine,
+    },
+    // A lost semicolon is a fault of its own line: the one after an author,
+    StateRow {
+        old: b"400;ann;on it",
+        new: b"400;ann on it",
+        line: 10,
+        cause: StateCause::BadLine,
+    },
+    // and those after a fate.
+    StateRow {
+        old: b"430;active;500;600;ann;move",
+        new: b"430;active",
+        line: 12,
+        cause: StateCause::BadLine,
+    },
+    StateRow {
+        old: b"430;active;500;600;ann;move",
+        new: b"430;",
+        line: 12,
+        cause: StateCause::BadLine,
+    },
+    // Moments of a fate that is active are missing.
+    StateRow {
+        old: b"430;active;500;600",
+        new: b"430;active;;",
+        line: 12,
+        cause: StateCause::BadLine,
     },
     StateRow {
         old: b"end;13\n",
@@ -239,11 +376,55 @@ const REFUSED: &[StateRow] = &[
     },
 ];
 
-/// The state with the first such piece replaced, which is there.
-fn replaced(alloc: Global, old: &[u8], new: &[u8]) -> Result<Vec<u8>, Memory> {
+/// The same of the state in version 1.
+const REFUSED_FIRST: &[StateRow] = &[
+    StateRow {
+        old: b"2;1;3;2;1;300",
+        new: b"2;1;4;2;1;300",
+        line: 6,
+        cause: StateCause::BadValue,
+    },
+    StateRow {
+        old: b"downtime;2;1",
+        new: b"downtime;3;1",
+        line: 13,
+        cause: StateCause::BadValue,
+    },
+];
+
+/// A state with two pieces replaced, of which the first has its fault in an earlier line or none.
+struct FarRow {
+    first: (&'static [u8], &'static [u8]),
+    second: (&'static [u8], &'static [u8]),
+    line: u64,
+    cause: StateCause,
+}
+
+const REFUSED_FAR: &[FarRow] = &[
+    // No entry can have scheduled the downtimes: with no comments their count is in line 10.
+    FarRow {
+        first: (b"entries;9", b"entries;0"),
+        second: (
+            b"comments;2;1\ncomment;1;1;web;http;1;1;400;ann;on it\n",
+            b"comments;0;0\n",
+        ),
+        line: 10,
+        cause: StateCause::BadValue,
+    },
+    // A field that cannot be read is refused before a value that does not fit.
+    FarRow {
+        first: (b"clock;550", b"clock;1099511627776"),
+        second: (b"active;500;620", b"active;500;x"),
+        line: 13,
+        cause: StateCause::BadLine,
+    },
+];
+
+/// The text with the first such piece replaced, which is there.
+fn replaced(alloc: Global, whole: &[u8], old: &[u8], new: &[u8]) -> Result<Vec<u8>, Memory> {
     let mut text = Vec::new(alloc);
-    for place in 0..STATE.len() {
-        let (before, rest) = STATE.split_at(place);
+    for place in 0..whole.len() {
+        let (before, rest) = whole.split_at(place);
         if let Some(behind) = rest.strip_prefix(old) {
             text.extend_from_slice(before)?;
             text.extend_from_slice(new)?;
@@ -254,20 +435,57 @@ fn replaced(alloc: Global, old: &[u8], new: &[u8]) -> Result<Vec<u8>, Memory> {
     Ok(text)
 }
 
-#[test]
-fn other_texts_are_refused(rt: HostRuntime) -> Result<(), Fail> {
-    let alloc = rt.alloc();
-    for row in REFUSED {
-        let text = replaced(alloc, row.old, row.new)?;
-        let inventory = inventory_of(&rt, alloc, WEB)?;
-        let Err(fault) = read_state(alloc, inventory, &text) else {
-            return Err(Fail::new("it is refused"));
-        };
+/// Compares the fault of a text with the one that is wanted.
+fn refuse(rt: &impl Abort, alloc: Global, text: &[u8], wanted: StateFault) -> Result<(), Fail> {
+    let inventory = inventory_of(rt, alloc, WEB)?;
+    let Err(fault) = read_state(alloc, inventory, text) else {
+        return Err(Fail::new("it is refused"));
+    };
+    assert_eq!(rt; fault, wanted);
+    Ok(())
+}
+
+/// Compares the fault of each row of this state.
+fn refuse_rows(
+    rt: &impl Abort,
+    alloc: Global,
+    whole: &[u8],
+    rows: &[StateRow],
+) -> Result<(), Fail> {
+    for row in rows {
+        let text = replaced(alloc, whole, row.old, row.new)?;
         let wanted = StateFault {
             line: row.line,
             cause: row.cause,
         };
-        assert_eq!(rt; fault, wanted);
+        refuse(rt, alloc, &text, wanted)?;
+    }
+    Ok(())
+}
+
+#[test]
+fn other_texts_are_refused(rt: HostRuntime) -> Result<(), Fail> {
+    let alloc = rt.alloc();
+    refuse_rows(&rt, alloc, STATE, REFUSED)
+}
+
+#[test]
+fn other_texts_of_version_1_are_refused(rt: HostRuntime) -> Result<(), Fail> {
+    let alloc = rt.alloc();
+    refuse_rows(&rt, alloc, FIRST_STATE, REFUSED_FIRST)
+}
+
+#[test]
+fn the_first_of_two_faults_is_named(rt: HostRuntime) -> Result<(), Fail> {
+    let alloc = rt.alloc();
+    for row in REFUSED_FAR {
+        let once = replaced(alloc, STATE, row.first.0, row.first.1)?;
+        let text = replaced(alloc, &once, row.second.0, row.second.1)?;
+        let wanted = StateFault {
+            line: row.line,
+            cause: row.cause,
+        };
+        refuse(&rt, alloc, &text, wanted)?;
     }
     Ok(())
 }

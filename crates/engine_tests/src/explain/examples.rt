@@ -1,28 +1,30 @@
 //! The examples that the documentation of the public items has, a test each, with the same lines.
 use cmd_answer::{FilesStop, Stop};
-use cmd_explain::{Told, explain, put_shown_line, serve_explain, stopped_in_words, told_in};
+use cmd_explain::{
+    KnownLine, explain, known_line, put_shown_line, serve_explain, stopped_in_words,
+};
 use cmd_lines::LineFault;
 use mon_inventory::Cause;
 use std::test::*;
 
 #[test]
-fn a_told_line(rt: HostRuntime) -> Result<(), Fail> {
+fn a_known_line(rt: HostRuntime) -> Result<(), Fail> {
     let alloc = rt.alloc();
-    let told = told_in(alloc, b"gateway: inventory line 2: 7");
-    let wanted = Told::Inventory {
+    let known = known_line(alloc, b"gateway: inventory line 2: 7");
+    let wanted = KnownLine::Inventory {
         line: 2,
         cause: Cause::UnknownContact,
     };
-    assert_eq!(rt; told, Ok(Some(wanted)));
+    assert_eq!(rt; known, Ok(Some(wanted)));
     Ok(())
 }
 
 #[test]
 fn known_and_unknown_lines(rt: HostRuntime) -> Result<(), Fail> {
     let alloc = rt.alloc();
-    let told = told_in(alloc, b"gateway: feed 3: replaced");
-    assert_eq!(rt; told, Ok(Some(Told::Replaced { feed: 3 })));
-    assert_eq!(rt; told_in(alloc, b"clock;1200"), Ok(None));
+    let known = known_line(alloc, b"gateway: feed 3: replaced");
+    assert_eq!(rt; known, Ok(Some(KnownLine::Replaced { feed: 3 })));
+    assert_eq!(rt; known_line(alloc, b"clock;1200"), Ok(None));
     Ok(())
 }
 

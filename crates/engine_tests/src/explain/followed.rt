@@ -1,7 +1,7 @@
 //! Tests of the lines of a run that follows feeds: their texts, and their meanings.
 use super::{LineMeaning, expect_meanings};
 use cmd_answer::{AbsentFeed, FollowLine};
-use cmd_explain::{Told, told_in};
+use cmd_explain::{KnownLine, known_line};
 use mon_inventory::Cause;
 use std::test::*;
 
@@ -142,8 +142,8 @@ fn a_path_may_have_the_words_of_other_lines(rt: HostRuntime) -> Result<(), Fail>
                 text.as_bytes().strip_suffix(b"\n") == Some(line.as_bytes()),
                 "{path}"
             );
-            let told = told_in(alloc, line.as_bytes());
-            assert!(rt; told == Ok(Some(Told::Absent { is_there })), "{path}");
+            let known = known_line(alloc, line.as_bytes());
+            assert!(rt; known == Ok(Some(KnownLine::Absent { is_there })), "{path}");
         }
     }
     Ok(())

@@ -1,21 +1,17 @@
 //! The commands that earlier runs journaled of each feed. A feed is read from the position after them. A feed that is
 //! now another file is read from its beginning: the kept feeds record that, and the error stream gets a line on it.
 ghost use Rattle.std.specs.Prelude.{◌≡◌, ◌-◌, Some, true, false, IfOk, length, map, slice_get};
-ghost use Rattle.gateway.specs.declared.start.Start.TheVariants.{Anew};
-ghost use Rattle.gateway.specs.Reading.{known_from, begun_anew, renewed};
+ghost use Rattle.cmd_live.specs.declared.start.Start.TheVariants.{Anew};
+ghost use Rattle.gateway.specs.KnownFeeds.{known_from, begun_anew, renewed};
 
-use crate::live::{ErrorStreams, OpenFeeds};
-use crate::run::Run;
-use crate::start::{Known, Start};
 use cmd_answer::{FilesStop, FollowLine, Stop, write_text};
 use cmd_ledger::is_clock;
+use cmd_live::{Known, OpenFeeds, Run, Start, System};
 use cmd_types::Memory;
 use mon_state::{KeptFeed, KeptFeeds};
 use std::alloc::Global;
 use std::io::{Read, Write};
 use std::rt::Files;
-use std::sync::Wait;
-use std::time::Clock;
 
 /// The journaled commands of the feed's present file; those of its earlier files do not count.
 fn known_of(feed: &KeptFeed) -> Known<'_>
@@ -43,7 +39,7 @@ fn all_known(alloc: Global, feeds: &KeptFeeds) -> Result<Vec<Known<'_>>, Memory>
 
 /// Opens the feeds that the call names, each after its journaled commands. Returns the open feeds, and the position
 /// where the reading of each begins. Fails as [`Run::open`] does, or if memory runs out. Writes to no file.
-pub(crate) fn open_kept<'a, R: Files + Clock + ErrorStreams + Wait, I: Read + Drop>(
+pub(crate) fn open_kept<'a, R: System, I: Read + Drop>(
     run: &'a Run<'a, R>,
     feeds: &KeptFeeds,
     input: I,
@@ -59,7 +55,7 @@ pub(crate) fn open_kept<'a, R: Files + Clock + ErrorStreams + Wait, I: Read + Dr
 
 /// Writes to the error stream that a feed begins anew, as another file. If memory runs out, writes nothing; a
 /// failed write is ignored.
-fn tell_anew<E: Write>(alloc: Global, feed: u64, errors: &mut E) {
+fn print_anew<E: Write>(alloc: Global, feed: u64, errors: &mut E) {
     if let Ok(line) = (FollowLine::Anew { feed }).text(alloc) {
         // The feed is read even where the error stream takes no line.
         let _ = write_text(errors, line.as_bytes());
@@ -67,9 +63,9 @@ fn tell_anew<E: Write>(alloc: Global, feed: u64, errors: &mut E) {
 }
 
 /// Writes to the error stream which files were replaced, unless that was written before. A failed write is ignored.
-pub(crate) fn tell_replaced<R: Files, E: Write>(run: &Run<'_, R>, errors: &mut E) {
+pub(crate) fn print_replaced<R: Files, E: Write>(run: &Run<'_, R>, errors: &mut E) {
     for gate in &run.signal.gates {
-        if gate.is_untold()
+        if gate.is_unprinted()
             && let Ok(line) = (FollowLine::Replaced { feed: gate.feed }).text(run.call.alloc)
         {
             let _ = write_text(errors, line.as_bytes());
@@ -114,7 +110,7 @@ pub(crate) fn renew<R: Files, E: Write>(
     for place in 0..gates.len() {
         if begins_anew(starts, place) {
             let feed = gates[place].feed;
-            tell_anew(run.call.alloc, feed, errors);
+            print_anew(run.call.alloc, feed, errors);
             begin_anew(feeds, feed as usize);
         }
     }

@@ -1,11 +1,10 @@
 //! The file `status` of a state directory, which shows the present state of a run. The file is written as the run
 //! begins, at most once a second while commands come, and as the run ends. A change that it lacks is shown with the next
 //! command of the clock feed, which then comes within two seconds.
-use crate::live::{Signal, StatusFile};
-use crate::run::{Call, Run};
 use crate::state_stops::status_stop;
 use cmd_answer::Stop;
 use cmd_dispatch::{Observer, RunCause};
+use cmd_live::{Call, Run, Signal, StatusFile};
 use cmd_store::{Store, StoreFailed};
 use mon_engine::Monitor;
 use std::rt::Files;
@@ -30,10 +29,8 @@ pub(crate) fn write_status<R: Files + Clock>(
     directory: &str,
     monitor: &Monitor,
 ) -> Result<(), Stop> {
-    let mut status = StatusFile::new(call.rt, call.alloc, directory).map_err(|fault| status_stop(
-        fault,
-    ))?;
-    status.write(monitor).map_err(|fault| status_stop(fault))
+    let mut status = StatusFile::new(call.rt, call.alloc, directory).map_err(status_stop)?;
+    status.write(monitor).map_err(status_stop)
 }
 
 impl<'a, 's, R: Files + Clock> Watching<'a, 's, R> {

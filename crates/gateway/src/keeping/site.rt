@@ -8,13 +8,12 @@ ghost use Rattle.cmd_answer.specs.Stops.{has_twice};
 ghost use Rattle.mon_engine.specs.declared.state.TheConstants.{GREATEST_BEFORE};
 ghost use Rattle.cmd_recovery.specs.Assigns.{TakesOver};
 
-use crate::inventories::end_last_line;
-use crate::live::{Directory, Locks, Node};
-use crate::numbered::{Numbered, UNNAMED};
-use crate::run::{Call, Run};
-use crate::state_stops::{assign_stop, at_start, lock_stop, passing, start_stop};
+use crate::state_stops::{assign_stop, lock_stop, start_stop};
 use cmd_answer::{FilesStop, StateWord, Stop, has_twice, inventory_text_in, may_pass};
 use cmd_journal::GREATEST_LIMIT;
+use cmd_live::{
+    Call, Directory, Node, Numbered, Run, System, UNNAMED, at_start, end_last_line, passing,
+};
 use cmd_recovery::{Assigned, Recovered, Role, assign, start};
 use cmd_types::{Memory, is_sender_count};
 use mon_engine::GREATEST_BEFORE;
@@ -68,7 +67,7 @@ pub(crate) fn read_inventory<'a, R: Files>(call: &Call<'a, R>) -> Result<Vec<u8>
 /// Locks the state directory at `path` by its file `lock`, which is created where it is missing, and returns the lock with
 /// the directory's node. Nothing else in the directory is read or written. Fails where there is no directory, another
 /// program has locked it, the file cannot be locked, or memory runs out.
-pub(crate) fn lock_directory<R: Files + Locks>(
+pub(crate) fn lock_directory<R: System>(
     call: &Call<'_, R>,
     path: &str,
 ) -> Result<(R::Lock, Node), Stop> {
@@ -94,7 +93,7 @@ fn assigned<R>(call: &Call<'_, R>, feeds: &KeptFeeds) -> Result<Assigned, Stop>
     ensures few { IfOk result (λ a. length a.feeds.list ≤ MOST_SENDERS) }
 {
     let has_clock = call.asked.following.clock != 0;
-    assign(call.alloc, feeds, &call.asked.feeds, has_clock).map_err(|fault| assign_stop(fault))
+    assign(call.alloc, feeds, &call.asked.feeds, has_clock).map_err(assign_stop)
 }
 
 /// The feeds of the directory and of the call but the clock feed, in order of their numbers. The number of a feed is the

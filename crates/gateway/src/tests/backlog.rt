@@ -1,6 +1,5 @@
 //! The order of the commands that waited before a run: which of them waits for which, and until when.
-use crate::live::Backlog;
-use crate::numbered::number_feeds;
+use cmd_live::{Backlog, number_feeds};
 use cmd_types::Memory;
 use std::alloc::Global;
 use std::io;

@@ -1,5 +1,5 @@
 //! A system's clock that jumps ahead: its time is used again once five ticks agree.
-use crate::clocks::{Agreement, Clocks, Comparison};
+use cmd_live::{Agreement, Clocks, Comparison};
 use std::test::Fail;
 
 /// The readings of the clocks at each tick, and the result. A tick comes every 10 seconds.

@@ -1,16 +1,12 @@
 //! Calls that end without a report: faulty arguments, inputs, files and streams.
 use super::{FAULTY, HOST, bundle, check_answer, compare, ends, expect, joined, run_over};
-use crate::live::{ErrorStreams, Locks};
 use crate::program::serve;
+use cmd_live::System;
 use std::alloc::AllocGlobal;
 use std::io::{self, Read, Write};
 use std::marker::Send;
 use std::process::Abort;
-use std::rt::Files;
-use std::sync::Wait;
 use std::test::Fail;
-use std::thread::Threads;
-use std::time::Clock;
 
 /// Arguments and the parts of an input that end with exit status 2, and the one line on the error stream.
 const ROWS: &[(&[&str], &[&[u8]], &[u8])] = &[
@@ -158,9 +154,7 @@ comment;1;web;;user;1;1;ann;hello
 ";
 
 /// Reads byte by byte from a stream that ends, and has a report.
-fn slow_input<
-    R: AllocGlobal + Abort + Files + Clock + ErrorStreams + Locks + Threads + Wait + Sync,
->(rt: &R, words: &[&str], bytes: &[u8])
+fn slow_input<R: AllocGlobal + Abort + System + Sync>(rt: &R, words: &[&str], bytes: &[u8])
 where
     R::File: Send,
     R::Dir: Send,
@@ -177,9 +171,7 @@ where
 }
 
 /// Reads byte by byte from a stream that fails after its bytes, and has no report.
-fn broken_input<
-    R: AllocGlobal + Abort + Files + Clock + ErrorStreams + Locks + Threads + Wait + Sync,
->(rt: &R, words: &[&str], bytes: &[u8])
+fn broken_input<R: AllocGlobal + Abort + System + Sync>(rt: &R, words: &[&str], bytes: &[u8])
 where
     R::File: Send,
     R::Dir: Send,
@@ -191,9 +183,12 @@ where
 }
 
 /// Writes to a stream that is full after a number of writes.
-fn full_output<
-    R: AllocGlobal + Abort + Files + Clock + ErrorStreams + Locks + Threads + Wait + Sync,
->(rt: &R, words: &[&str], input: &[u8], writes: usize)
+fn full_output<R: AllocGlobal + Abort + System + Sync>(
+    rt: &R,
+    words: &[&str],
+    input: &[u8],
+    writes: usize,
+)
 where
     R::File: Send,
     R::Dir: Send,
@@ -206,9 +201,7 @@ where
 }
 
 /// Runs the program over streams that are slow, that fail and that are full.
-fn check_streams<
-    R: AllocGlobal + Abort + Files + Clock + ErrorStreams + Locks + Threads + Wait + Sync,
->(rt: &R, words: &[&str], input: &[u8])
+fn check_streams<R: AllocGlobal + Abort + System + Sync>(rt: &R, words: &[&str], input: &[u8])
 where
     R::File: Send,
     R::Dir: Send,

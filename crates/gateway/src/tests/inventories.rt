@@ -1,6 +1,6 @@
 //! What a text that the file of the inventory has now is to a run.
-use crate::inventories::{end_last_line, inventory_line, new_inventory};
 use cmd_answer::FollowLine;
+use cmd_live::{end_last_line, inventory_line, new_inventory};
 use mon_inventory::Cause;
 use std::test::Fail;
 

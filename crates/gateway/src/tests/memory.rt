@@ -1,20 +1,16 @@
 //! The program where any single allocation is refused: the refusal is reported, and the same work done again continues.
 //! `bench/refuse-each gateway tests::memory` refuses each in turn.
 use super::{Answer, HOST, THREE, UNTOLD, compare, ends, joined};
-use crate::live::{ErrorStreams, Locks};
 use crate::program::serve;
+use cmd_live::System;
 use cmd_types::Memory;
 use std::alloc::{AllocError, AllocGlobal};
 use std::marker::Send;
 use std::process::Abort;
-use std::rt::Files;
-use std::sync::Wait;
 use std::test::Fail;
-use std::thread::Threads;
-use std::time::Clock;
 
 /// Runs the program over writers with room.
-fn answered<R: AllocGlobal + Files + Clock + ErrorStreams + Locks + Threads + Wait + Sync>(
+fn answered<R: AllocGlobal + System + Sync>(
     rt: &R,
     words: &[&str],
     bundle: &[&[u8]],
@@ -45,7 +41,7 @@ fn check_want(rt: &impl Abort, answer: &Answer) {
 }
 
 /// The output of the program, which ends with this exit status, or with 3 if memory runs out.
-fn served<R: AllocGlobal + Abort + Files + Clock + ErrorStreams + Locks + Threads + Wait + Sync>(
+fn served<R: AllocGlobal + Abort + System + Sync>(
     rt: &R,
     words: &[&str],
     bundle: &[&[u8]],
@@ -129,10 +125,7 @@ rejected;0;3;4
 ];
 
 /// Asserts that the output is the row's. Where memory was refused, everything is done once more.
-fn check_row<R: AllocGlobal + Abort + Files + Clock + ErrorStreams + Locks + Threads + Wait + Sync>(
-    rt: &R,
-    row: &Row,
-) -> Result<(), Memory>
+fn check_row<R: AllocGlobal + Abort + System + Sync>(rt: &R, row: &Row) -> Result<(), Memory>
 where
     R::File: Send,
     R::Dir: Send,

@@ -1,5 +1,5 @@
 //! The text that is passed on from a pipe: whole lines, without the marks.
-use crate::pipe_text::{MARK, PipeText};
+use cmd_live::{MARK, PipeText};
 use std::test::Fail;
 
 /// Reads, each with whether it was full, the text passed on, and the text left over.

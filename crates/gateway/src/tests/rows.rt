@@ -3,15 +3,11 @@
 mod journals;
 
 use super::{HOST, THREE, UNTOLD, WEB, compare, joined, lines_of, output_of};
-use crate::live::{ErrorStreams, Locks};
+use cmd_live::System;
 use std::alloc::{AllocError, AllocGlobal, Global};
 use std::marker::Send;
 use std::process::Abort;
-use std::rt::Files;
-use std::sync::Wait;
 use std::test::Fail;
-use std::thread::Threads;
-use std::time::Clock;
 
 /// The worked inventory, with soft hosts.
 const SOFT_WEB: &[u8] = b"contact;ann;d,u,r,s;w,u,c,r,s
@@ -344,9 +340,10 @@ fn compared(alloc: Global, row: &Row, output: &[u8]) -> Result<Vec<u8>, AllocErr
 }
 
 /// Asserts the exit status and the lines of each row.
-fn check_rows<
-    R: AllocGlobal + Abort + Files + Clock + ErrorStreams + Locks + Threads + Wait + Sync,
->(rt: &R, rows: &[Row]) -> Result<(), AllocError>
+fn check_rows<R: AllocGlobal + Abort + System + Sync>(
+    rt: &R,
+    rows: &[Row],
+) -> Result<(), AllocError>
 where
     R::File: Send,
     R::Dir: Send,

@@ -1,5 +1,5 @@
 //! The lines of a feed that were given last.
-use crate::seen_lines::SeenLines;
+use cmd_live::SeenLines;
 use std::test::Fail;
 
 /// Pieces, and after all of them lines by their numbers, from 1: empty where they are not kept.
@@ -9,7 +9,7 @@ const ROWS: &[(&[&[u8]], &[(u64, &[u8])])] = &[
         &[b"one\ntwo\nthr"],
         &[(1, b"one"), (2, b"two"), (3, b"thr"), (4, b"")],
     ),
-    // Lines that were ended before the last piece are forgotten, and one that was not goes on.
+    // Lines that were ended before the last piece are forgotten, and one that was not is continued.
     (
         &[b"one\ntwo\nthr", b"ee\nfour"],
         &[(3, b"three"), (4, b"four")],

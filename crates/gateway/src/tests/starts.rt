@@ -1,5 +1,5 @@
 //! The position where the reading of a file begins that earlier runs have read.
-use crate::start::{Known, Start, find_start};
+use cmd_live::{Known, Start, find_start};
 use std::test::Fail;
 
 /// A text with an empty line, a refused line, three commands and an unfinished line.

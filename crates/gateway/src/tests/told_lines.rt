@@ -1,5 +1,5 @@
 //! The told lines of a state directory, each behind its key.
-use crate::told_lines::{ToldWanted, put_told_lines};
+use cmd_live::{ToldWanted, put_told_lines};
 use cmd_options::ToldPlace;
 use std::test::Fail;
 

@@ -68,14 +68,15 @@ fn what_is_gone_leaves_nothing_but_its_ids(rt: HostRuntime) -> Result<(), Fail> 
     Ok(())
 }
 
-/// Whether the problem of a host is hard, and its attempt, after the host got a new greatest attempt.
-fn type_and_attempt(
+/// Whether the problem of a host is hard, its attempt, and since when it is hard, after the host got a new greatest
+/// attempt. A problem that was hard before was so since 7.
+fn under_attempts(
     rt: &impl Abort,
     alloc: Global,
     hard: bool,
     attempt: u64,
     new: &[u8],
-) -> Result<(bool, u64), Memory> {
+) -> Result<(bool, u64, Option<u64>), Memory> {
     let mut web = object(alloc, false);
     web.status = Status {
         service: false,
@@ -83,6 +84,7 @@ fn type_and_attempt(
         hard,
         attempt,
     };
+    web.moments.since = if hard { Some(7) } else { None };
     let objects = Vec::from_array(alloc, [web])?;
     let parts = parts_of(alloc, objects, Vec::new(alloc));
     let Ok(parts) = carried(rt, alloc, b"host;web;4;0;;\n", parts, new) else {
@@ -90,21 +92,21 @@ fn type_and_attempt(
     };
     match parts.objects.first() {
         None => Err(AllocError),
-        Some(web) => Ok((web.status.hard, web.status.attempt)),
+        Some(web) => Ok((web.status.hard, web.status.attempt, web.moments.since)),
     }
 }
 
 #[test]
 fn attempts_are_within_the_most(rt: HostRuntime) -> Result<(), Fail> {
-    let rows: [(bool, u64, &[u8], (bool, u64)); 5] = [
-        (false, 1, b"host;web;2;0;;\n", (false, 1)),
-        (false, 2, b"host;web;2;0;;\n", (true, 2)),
-        (false, 3, b"host;web;2;0;;\n", (true, 2)),
-        (true, 4, b"host;web;2;0;;\n", (true, 2)),
-        (true, 4, b"host;web;9;0;;\n", (true, 4)),
+    let rows: [(bool, u64, &[u8], (bool, u64, Option<u64>)); 5] = [
+        (false, 1, b"host;web;2;0;;\n", (false, 1, None)),
+        (false, 2, b"host;web;2;0;;\n", (true, 2, Some(550))),
+        (false, 3, b"host;web;2;0;;\n", (true, 2, Some(550))),
+        (true, 4, b"host;web;2;0;;\n", (true, 2, Some(7))),
+        (true, 4, b"host;web;9;0;;\n", (true, 4, Some(7))),
     ];
     for (hard, attempt, new, wanted) in rows {
-        let found = type_and_attempt(&rt, rt.alloc(), hard, attempt, new)?;
+        let found = under_attempts(&rt, rt.alloc(), hard, attempt, new)?;
         assert_eq!(rt; found, wanted);
     }
     Ok(())

@@ -124,7 +124,7 @@ fn expect_told(
 }
 
 /// Compares the recipients of a row, for each of the eight options and with all higher bits.
-/// That a notice counts changes nobody: its number is handed in.
+/// That a notice counts changes nobody: its number is an argument.
 fn expect_row(
     rt: &(impl Abort + AllocGlobal),
     inventory: &Inventory,

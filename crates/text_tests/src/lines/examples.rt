@@ -1,5 +1,7 @@
 //! The examples that the documentation of the public items has, a test each, with the same lines.
-use cmd_lines::{Item, LineFault, Lines, Put, Skip, Skipping, number_up_to, parse_line};
+use cmd_lines::{
+    Item, LastNumber, LineFault, Lines, Put, Skip, Skipping, number_up_to, parse_line, parse_next,
+};
 use cmd_types::{has_no_return, lacks};
 use std::test::*;
 
@@ -10,6 +12,27 @@ fn line(rt: HostRuntime) -> Result<(), Fail> {
     assert!(rt; lacks(b'\n', line) && has_no_return(line));
     let stamped = parse_line(alloc, line)?;
     assert_eq!(rt; stamped.time(), 7);
+    Ok(())
+}
+
+#[test]
+fn next_line(rt: HostRuntime) -> Result<(), Fail> {
+    let alloc = rt.alloc();
+    let mut last = LastNumber::new();
+    let line = b"[1700000000] RESTART_PROGRAM".as_slice();
+    assert!(rt; lacks(b'\n', line) && has_no_return(line));
+    let stamped = parse_next(alloc, line, &mut last)?;
+    assert_eq!(rt; stamped.time(), 1_700_000_000);
+    Ok(())
+}
+
+#[test]
+fn last_number(rt: HostRuntime) -> Result<(), Fail> {
+    let mut last = LastNumber::new();
+    for bytes in [b"1700000000 a".as_slice(), b"1700000000 b"] {
+        let (time, _) = last.up_to(b' ', bytes).ok_or("a number and a space")?;
+        assert_eq!(rt; time, 1_700_000_000);
+    }
     Ok(())
 }
 

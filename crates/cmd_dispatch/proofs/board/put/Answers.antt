@@ -1,6 +1,6 @@
 use Rattle.std.proofs.Common.{rules, sym, subst, List}
 use Rattle.cmd_types.specs.declared.entry.Entry.{Entry}
-use Rattle.cmd_dispatch.specs.Told.{BeginsWith}
+use Rattle.cmd_dispatch.specs.Delivered.{BeginsWith}
 use Rattle.cmd_dispatch.specs.BoardViews.{Shows}
 use Rattle.cmd_dispatch.proofs.BoardSteps.{publishes}
 use Rattle.cmd_dispatch.proofs.board.put.Goals as goal

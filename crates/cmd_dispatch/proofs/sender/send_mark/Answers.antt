@@ -17,4 +17,4 @@ returns-in-Ok g c =
 
 pub returns-in-Err : goal.returns-in-Err
 returns-in-Err g c =
-    inr (left_same c.args.side c.in-Err.side (g.P.Reporter.has_told c.args.report) (g.P.Reporter.has_told c.args.report) c.leave.result.0 (g.P.Reporter.view c.leave.result.1) (g.P.Reporter.has_told c.leave.result.1) c.in-Err.ensures.refused (λ refused told. told) c.leave.ensures)
+    inr (left_same c.args.side c.in-Err.side (g.P.Reporter.has_taken c.args.report) (g.P.Reporter.has_taken c.args.report) c.leave.result.0 (g.P.Reporter.view c.leave.result.1) (g.P.Reporter.has_taken c.leave.result.1) c.in-Err.ensures.refused (λ refused told. told) c.leave.ensures)

@@ -24,11 +24,11 @@ start-requires-clause-new g c κs within =
 pub start-requires-clause-planned : goal.start-requires-clause-planned
 start-requires-clause-planned g c κs within =
     let at = c.loop-feed.invariant.starting in
-    next_is_planned g.F.Feed.tells c.args.senders.sides.items c.args.senders.feeds.items at.gone _ _ at.done _ _ c.in-Some-next.side c.in-Some.feed at.sides_are c.in-Some-next.ensures.items at.feeds_are c.in-Some.ensures.steps.0 (at.sides_gone ∙ sym at.feeds_done) c.requires.planned
+    next_is_planned g.F.Feed.remaining c.args.senders.sides.items c.args.senders.feeds.items at.gone _ _ at.done _ _ c.in-Some-next.side c.in-Some.feed at.sides_are c.in-Some-next.ensures.items at.feeds_are c.in-Some.ensures.steps.0 (at.sides_gone ∙ sym at.feeds_done) c.requires.planned
 
-pub start-requires-clause-nothing_told : goal.start-requires-clause-nothing_told
-start-requires-clause-nothing_told g c κs within =
-    next_told_nothing g.P.Reporter.has_told c.args.senders.reports.items _ c.loop-feed.invariant.starting.told _ _ c.in-Some-next-2.report c.loop-feed.invariant.starting.reports_are c.in-Some-next-2.ensures.items c.requires.new.2
+pub start-requires-clause-none_taken : goal.start-requires-clause-none_taken
+start-requires-clause-none_taken g c κs within =
+    next_told_nothing g.P.Reporter.has_taken c.args.senders.reports.items _ c.loop-feed.invariant.starting.told _ _ c.in-Some-next-2.report c.loop-feed.invariant.starting.reports_are c.in-Some-next-2.ensures.items c.requires.new.2
 
 pub loop-feed-preserved : goal.loop-feed-preserved
 loop-feed-preserved g c =

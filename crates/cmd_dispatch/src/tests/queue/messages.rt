@@ -105,7 +105,7 @@ fn check_back<R: Wait + Abort>(rt: &R, side: &mut SenderSide, commands: Vec<Stam
 }
 
 #[test]
-fn commands_that_nobody_takes_are_handed_back(rt: HostRuntime) -> Result<(), Fail> {
+fn commands_that_nobody_takes_are_returned(rt: HostRuntime) -> Result<(), Fail> {
     let commands = together(rt.alloc(), 6..9)?;
     let (mut sides, dispatcher) = made(&rt, rt.alloc(), 2, 1)?;
     drop(dispatcher);

@@ -1,5 +1,5 @@
 use Rattle.cmd_explain.proofs.LawLemmas.{finds_all}
-use Rattle.cmd_explain.proofs.ToldLemmas.{knows_all}
+use Rattle.cmd_explain.proofs.KnownLineLemmas.{knows_all}
 use Rattle.cmd_explain.proofs.laws.every_line_is_known.Goals as goal
 
 pub returns : goal.returns

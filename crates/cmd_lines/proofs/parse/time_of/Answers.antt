@@ -26,4 +26,4 @@ returns c =
     let line = c.args.line.now in
     let bytes = take (length line - 1) (drop 1 line) in
     let bracket : get_or line 0 0 ≡ 91 = omega arith in
-    rw c.ok_or.ensures.value (given c.definitions_agree.ensures line bytes c.number_up_to.result (opens_with 91 line (omega arith) bracket) c.number_up_to.ensures)
+    rw c.ok_or.ensures.value (given c.definitions_agree.ensures line bytes c.up_to.result (opens_with 91 line (omega arith) bracket) c.up_to.ensures)

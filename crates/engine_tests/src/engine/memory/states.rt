@@ -14,12 +14,12 @@ const KEPT: &[u8] = b"[1] ADD_HOST_COMMENT;web;1;ann;one
 [3] PROCESS_HOST_CHECK_RESULT;web;1;dead
 ";
 
-const STATE: &[u8] = b"> state;1
+const STATE: &[u8] = b"> state;2
 clock;3
 entries;3
 program;1;1;1
-host;web;1;1;1;0;0;;;;1;1;dead
-service;web;http;0;1;1;0;0;;;;1;1;
+host;web;1;1;1;0;0;;;;1;1;3;3;3;dead
+service;web;http;0;1;1;0;0;;;;1;1;;0;;
 comments;1;1
 comment;1;0;web;;0;1;1;ann;one
 downtimes;1

@@ -1,5 +1,5 @@
 use Rattle.std.proofs.Common.{Bool, if◌then◌else◌, ap, sym, ◌∙◌}
-use Rattle.gateway.proofs.FollowLemmas.{whole_and_clean}
+use Rattle.gateway.proofs.CleanLemmas.{whole_and_clean}
 use Rattle.gateway.proofs.ends.status_of.Goals as goal
 
 pub returns-then-are_clean-clause-status : goal.returns-then-are_clean-clause-status

@@ -9,7 +9,7 @@ use Rattle.cmd_lines.specs.Skips.{raised_refusal}
 use Rattle.cmd_answer.specs.Printed.{refused_line, refuses_none}
 use Rattle.cmd_answer.specs.declared.stop.Stop.TheVariants.{Output}
 use Rattle.gateway.specs.Followed.{lines_due, followed_status, IsRunCutOff}
-use Rattle.gateway.proofs.FollowRuns.{call_unstarted, nothing_told, count_is, call_followed, call_failed, cut_so}
+use Rattle.gateway.proofs.FollowRuns.{call_unstarted, none_taken, count_is, call_followed, call_failed, cut_so}
 use Rattle.gateway.proofs.follow.follow_all.Goals as goal
 
 pub returns-in_default-clause-cut_off : goal.returns-in_default-clause-cut_off
@@ -18,10 +18,10 @@ returns-in_default-clause-cut_off g c = inl (call_unstarted c.args.run.now.call.
 pub follow-followed-requires-clause-allowed : goal.follow-followed-requires-clause-allowed
 follow-followed-requires-clause-allowed g c κs within = inl (λ text. tt)
 
-pub follow-followed-requires-clause-nothing_told : goal.follow-followed-requires-clause-nothing_told
-follow-followed-requires-clause-nothing_told g c κs within =
+pub follow-followed-requires-clause-none_taken : goal.follow-followed-requires-clause-none_taken
+follow-followed-requires-clause-none_taken g c κs within =
     let count = c.in-Ok.ensures.one_each in
-    (count, λ k p h. (let told = c.in-Ok.ensures.nothing k p (omega (arith, h, count)) in (told.0, λ _. nothing_told g.R.Stream.Write.contents _ _ told.1)))
+    (count, λ k p h. (let told = c.in-Ok.ensures.nothing k p (omega (arith, h, count)) in (told.0, λ _. none_taken g.R.Stream.Write.contents _ _ told.1)))
 
 pub returns-in-Ok-due-clause-ran : goal.returns-in-Ok-due-clause-ran
 returns-in-Ok-due-clause-ran g c =

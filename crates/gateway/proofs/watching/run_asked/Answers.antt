@@ -7,5 +7,5 @@ use Rattle.gateway.proofs.watching.run_asked.Goals as goal
 pub returns-clause-ran : goal.returns-clause-ran
 returns-clause-ran g c =
     let is = c.run-run.ensures in
-    has_run (run_call g.F.Feed.tells g.F.Feed.fails g.F.Feed.fills c.args.options.run c.args.readers.items c.args.inventory) (length c.args.readers.items) c.run-run.result
-    (length-map c.args.readers.items (read_as g.F.Feed.tells g.F.Feed.fails g.F.Feed.fills c.args.options.run)) is.settled is.settled_of is.closed is.within is.alone is.told is.known is.means is.one_each
+    has_run (run_call g.F.Feed.remaining g.F.Feed.fails g.F.Feed.fills c.args.options.run c.args.readers.items c.args.inventory) (length c.args.readers.items) c.run-run.result
+    (length-map c.args.readers.items (read_as g.F.Feed.remaining g.F.Feed.fails g.F.Feed.fills c.args.options.run)) is.settled is.settled_of is.closed is.within is.alone is.reported is.known is.means is.one_each

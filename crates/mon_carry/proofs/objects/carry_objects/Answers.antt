@@ -12,7 +12,7 @@ pub loop-known-init : goal.loop-known-init
 loop-known-init c = record {
   parts = search rules;
   at = refl;
-  carried = c.in_ok-carried.ensures.objects ∙ none_placed c.args.old.now.objects c.args.objects.items c.args.new.now.objects;
+  carried = c.in_ok-carried.ensures.objects ∙ none_placed c.args.clock c.args.old.now.objects c.args.objects.items c.args.new.now.objects;
 }
 
 pub loop-known-preserved : goal.loop-known-preserved
@@ -37,9 +37,9 @@ loop-known-preserved c =
       at = omega (arith, length-append front (known ∷ []), was.at);
       carried =
           c.put.ensures
-          ∙ ap (λ (os : List Object). with_known specs known os c.place_in-place.result) was.carried
-          ∙ ap (with_known specs known (map (object_so_far c.args.old.now.objects c.args.objects.items c.loop-known.index) specs)) c.place_in-place.ensures.place
-          ∙ placed_more c.args.old.now c.args.new.now c.args.objects.items c.loop-known.index c.index-specs-index.result known c.objects-specs.ensures.sound c.requires.sound stood there;
+          ∙ ap (λ (os : List Object). with_known c.args.clock specs known os c.place_in-place.result) was.carried
+          ∙ ap (with_known c.args.clock specs known (map (object_so_far c.args.clock c.args.old.now.objects c.args.objects.items c.loop-known.index) specs)) c.place_in-place.ensures.place
+          ∙ placed_more c.args.clock c.args.old.now c.args.new.now c.args.objects.items c.loop-known.index c.index-specs-index.result known c.objects-specs.ensures.sound c.requires.sound stood there;
     }
 
 pub returns-clause-carried : goal.returns-clause-carried
@@ -49,4 +49,4 @@ returns-clause-carried c =
     let whole = ap length was.parts in
     let long = length-append c.loop-known.yielded (into_iter_items c.loop-known.known-iterator) in
     let left = ap length none in
-    was.carried ∙ all_placed c.args.old.now c.args.objects.items c.loop-known.index c.args.new.now.objects c.objects-specs.ensures.sound c.requires.many (let at = was.at in omega arith)
+    was.carried ∙ all_placed c.args.clock c.args.old.now c.args.objects.items c.loop-known.index c.args.new.now.objects c.objects-specs.ensures.sound c.requires.many (let at = was.at in omega arith)

@@ -1,6 +1,5 @@
-use Rattle.std.proofs.Common.{ℕ, ◌≡◌, take, arith}
+use Rattle.std.proofs.Common.{◌≡◌, take, arith}
 use Rattle.std.proofs.lemmas.List.{take_all}
-use Rattle.mon_notes.specs.Listed.{AreListed}
 use Rattle.mon_notes.proofs.ListedLemmas.{listed_kept}
 use Rattle.mon_notes.proofs.RestoreLemmas.{take_ascending, next_listed}
 use Rattle.mon_notes.proofs.lists.lists_of.Goals as goal

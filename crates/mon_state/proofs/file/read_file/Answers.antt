@@ -2,7 +2,7 @@ use Rattle.std.proofs.Common.{◌≡◌, inl, inr, ◌++◌, [], ◌∷◌, ◌+
 use Rattle.std.specs.Option.{option_copied}
 use Rattle.mon_inventory.specs.Configuration.{Configuration, inventory}
 use Rattle.mon_engine.specs.Saved.{IsSaved}
-use Rattle.mon_state.specs.State.{state_text}
+use Rattle.mon_state.specs.Upgrade.{IsStateText}
 use Rattle.mon_state.specs.Version.{IsOfUnknownVersion}
 use Rattle.mon_state.specs.Feeds.{feeds_text}
 use Rattle.mon_state.specs.File.{mark, IsHead}
@@ -13,17 +13,17 @@ use Rattle.mon_state.proofs.file.read_file.Goals as goal
 
 pub returns-in_default-clause-back : goal.returns-in_default-clause-back
 returns-in_default-clause-back c = λ given inv w feeds head read saved writable is.
-    (let clash : None ≡ Some (feeds_text feeds ++ state_text inv w) = sym (ap option_copied c.in_default.is) ∙ c.behind_mark.ensures ∙ mark_gives c.args.text.now given (feeds_text feeds ++ state_text inv w) head is in cc)
+    (let clash : None ≡ Some (feeds_text feeds ++ is.0) = sym (ap option_copied c.in_default.is) ∙ c.behind_mark.ensures ∙ mark_gives c.args.text.now given (feeds_text feeds ++ is.0) head is.1 in cc)
 
 pub returns-in-Err-clause-back : goal.returns-in-Err-clause-back
 returns-in-Err-clause-back c = λ given inv w feeds head read saved writable is.
     (let text = c.args.text.now in
     let rest = c.in-Some.rest.now in
-    let written = feeds_text feeds ++ state_text inv w in
+    let written = feeds_text feeds ++ is.0 in
     let found : behind_mark [] text ≡ Some rest = sym c.behind_mark.ensures ∙ ap option_copied c.in-Some.is in
-    let behind : rest ≡ written = same_behind text rest given written found head is in
-    let long : length text ≡ length given + (4 + length written) = omega (arith, ap length is, length-append given (mark ++ 10 ∷ written)) in
-    let front : take c.saturating_sub.result text ≡ given = given_is text given written c.saturating_sub.result is (let same = ap length behind in let a = c.saturating_sub-before.ensures in let b = c.saturating_sub.ensures in omega (arith, long, same, a, b)) in
+    let behind : rest ≡ written = same_behind text rest given written found head is.1 in
+    let long : length text ≡ length given + (4 + length written) = omega (arith, ap length is.1, length-append given (mark ++ 10 ∷ written)) in
+    let front : take c.saturating_sub.result text ≡ given = given_is text given written c.saturating_sub.result is.1 (let same = ap length behind in let a = c.saturating_sub-before.ensures in let b = c.saturating_sub.ensures in omega (arith, long, same, a, b)) in
     λ other. no_inventory _ given inv _ front (c.in-Err.ensures.read other) read)
 
 pub returns-in-Err-read_feeds-clause-back : goal.returns-in-Err-read_feeds-clause-back
@@ -31,8 +31,8 @@ returns-in-Err-read_feeds-clause-back c = λ given inv w feeds head read saved w
     (let text = c.args.text.now in
     let rest = c.in-Some.rest.now in
     let found : behind_mark [] text ≡ Some rest = sym c.behind_mark.ensures ∙ ap option_copied c.in-Some.is in
-    let behind = same_behind text rest given (feeds_text feeds ++ state_text inv w) found head is in
-    c.behind.ensures.cause ∙ c.in-Err-read_feeds.ensures.back feeds (state_text inv w) writable behind)
+    let behind = same_behind text rest given (feeds_text feeds ++ is.0) found head is.1 in
+    c.behind.ensures.cause ∙ c.in-Err-read_feeds.ensures.back feeds is.0 writable behind)
 
 pub returns-in-Ok-read_state-clause-text : goal.returns-in-Ok-read_state-clause-text
 returns-in-Ok-read_state-clause-text c =
@@ -42,8 +42,11 @@ returns-in-Ok-read_state-clause-text c =
     let split = mark_is text rest found in
     let long : length text ≡ length split.0 + (4 + length rest) = omega (arith, ap length split.1, length-append split.0 (mark ++ 10 ∷ rest)) in
     let front : take c.saturating_sub.result text ≡ split.0 = given_is text split.0 rest c.saturating_sub.result split.1 (let a = c.saturating_sub-before.ensures in let b = c.saturating_sub.ensures in omega (arith, long, a, b)) in
-    let state = c.in-Ok-read_state.ensures.text ∙ ap (λ (i : Configuration). state_text i c.in-Ok-read_state.monitor.world) (sym c.in-Ok-read_state.ensures.inventory) in
-    split.1 ∙ (λ i. sym front i ++ (mark ++ 10 ∷ ((c.in-Ok-read_feeds.ensures.text ∙ ap (λ (l : List ℕ). feeds_text c.in-Ok-read_feeds.read.0 ++ l) state) i)))
+    let state = c.in-Ok-read_feeds.read.1.now in (
+      state,
+      split.1 ∙ (λ i. sym front i ++ (mark ++ 10 ∷ (c.in-Ok-read_feeds.ensures.text i))),
+      subst (λ (k : Configuration). IsStateText k state c.in-Ok-read_state.monitor.world) (sym c.in-Ok-read_state.ensures.inventory) c.in-Ok-read_state.ensures.text,
+    )
 
 pub returns-in-Ok-read_state-clause-head : goal.returns-in-Ok-read_state-clause-head
 returns-in-Ok-read_state-clause-head c =
@@ -59,28 +62,28 @@ pub returns-in-Ok-read_state-clause-back : goal.returns-in-Ok-read_state-clause-
 returns-in-Ok-read_state-clause-back c = λ given inv w feeds head read saved writable is.
     (let text = c.args.text.now in
     let rest = c.in-Some.rest.now in
-    let written = feeds_text feeds ++ state_text inv w in
+    let written = feeds_text feeds ++ is.0 in
     let found : behind_mark [] text ≡ Some rest = sym c.behind_mark.ensures ∙ ap option_copied c.in-Some.is in
-    let behind : rest ≡ written = same_behind text rest given written found head is in
-    let long : length text ≡ length given + (4 + length written) = omega (arith, ap length is, length-append given (mark ++ 10 ∷ written)) in
-    let front : take c.saturating_sub.result text ≡ given = given_is text given written c.saturating_sub.result is (let same = ap length behind in let a = c.saturating_sub-before.ensures in let b = c.saturating_sub.ensures in omega (arith, long, same, a, b)) in
-    let feeds_are = c.in-Ok-read_feeds.ensures.back feeds (state_text inv w) writable behind in
+    let behind : rest ≡ written = same_behind text rest given written found head is.1 in
+    let long : length text ≡ length given + (4 + length written) = omega (arith, ap length is.1, length-append given (mark ++ 10 ∷ written)) in
+    let front : take c.saturating_sub.result text ≡ given = given_is text given written c.saturating_sub.result is.1 (let same = ap length behind in let a = c.saturating_sub-before.ensures in let b = c.saturating_sub.ensures in omega (arith, long, same, a, b)) in
+    let feeds_are = c.in-Ok-read_feeds.ensures.back feeds is.0 writable behind in
     let inv_is : c.in-Ok.inventory ≡ inv = same_inventory _ given c.in-Ok.inventory inv front c.in-Ok.ensures.read read in
-    let world = c.in-Ok-read_state.ensures.back w (subst (λ (i : Configuration). IsSaved i w) (sym inv_is) saved) (ap (λ p. p.1) feeds_are ∙ ap (λ (i : Configuration). state_text i w) (sym inv_is)) in
+    let world = c.in-Ok-read_state.ensures.back w (subst (λ (i : Configuration). IsSaved i w) (sym inv_is) saved) (subst (λ (i : Configuration). IsStateText i c.in-Ok-read_feeds.read.1.now w) (sym inv_is) (subst (λ (t : List ℕ). IsStateText inv t w) (sym (ap (λ p. p.1) feeds_are)) is.2)) in
     (front, c.in-Ok-read_state.ensures.inventory ∙ inv_is, world, ap (λ p. p.0) feeds_are))
 
 pub returns-in-Err-read_state-clause-back : goal.returns-in-Err-read_state-clause-back
 returns-in-Err-read_state-clause-back c = λ given inv w feeds head read saved writable is.
     (let text = c.args.text.now in
     let rest = c.in-Some.rest.now in
-    let written = feeds_text feeds ++ state_text inv w in
+    let written = feeds_text feeds ++ is.0 in
     let found : behind_mark [] text ≡ Some rest = sym c.behind_mark.ensures ∙ ap option_copied c.in-Some.is in
-    let behind : rest ≡ written = same_behind text rest given written found head is in
-    let long : length text ≡ length given + (4 + length written) = omega (arith, ap length is, length-append given (mark ++ 10 ∷ written)) in
-    let front : take c.saturating_sub.result text ≡ given = given_is text given written c.saturating_sub.result is (let same = ap length behind in let a = c.saturating_sub-before.ensures in let b = c.saturating_sub.ensures in omega (arith, long, same, a, b)) in
-    let feeds_are = c.in-Ok-read_feeds.ensures.back feeds (state_text inv w) writable behind in
+    let behind : rest ≡ written = same_behind text rest given written found head is.1 in
+    let long : length text ≡ length given + (4 + length written) = omega (arith, ap length is.1, length-append given (mark ++ 10 ∷ written)) in
+    let front : take c.saturating_sub.result text ≡ given = given_is text given written c.saturating_sub.result is.1 (let same = ap length behind in let a = c.saturating_sub-before.ensures in let b = c.saturating_sub.ensures in omega (arith, long, same, a, b)) in
+    let feeds_are = c.in-Ok-read_feeds.ensures.back feeds is.0 writable behind in
     let inv_is : c.in-Ok.inventory ≡ inv = same_inventory _ given c.in-Ok.inventory inv front c.in-Ok.ensures.read read in
-    let cause = c.in-Err-read_state.ensures.back w (subst (λ (i : Configuration). IsSaved i w) (sym inv_is) saved) (ap (λ p. p.1) feeds_are ∙ ap (λ (i : Configuration). state_text i w) (sym inv_is)) in
+    let cause = c.in-Err-read_state.ensures.back w (subst (λ (i : Configuration). IsSaved i w) (sym inv_is) saved) (subst (λ (i : Configuration). IsStateText i c.in-Ok-read_feeds.read.1.now w) (sym inv_is) (subst (λ (t : List ℕ). IsStateText inv t w) (sym (ap (λ p. p.1) feeds_are)) is.2)) in
     c.behind-in-Err-read_state.ensures.cause ∙ cause)
 
 pub returns-in-Err-clause-first : goal.returns-in-Err-clause-first
@@ -116,7 +119,7 @@ returns-in-Err-read_state-clause-first c =
     let inner = c.in-Err-read_state.fault in
     let line = c.behind-in-Err-read_state.ensures.line ∙ ap (λ (n : ℕ). line_behind (take n text) inner.line) c.saturating_sub-before-2.ensures in
     let read = c.in-Ok-read_feeds.read in
-    (split.0, rest, c.in-Ok.inventory, (found, split.1), sym (ap inventory front) ∙ c.in-Ok.ensures.read, inr (read.0, read.1.now, inner, c.in-Ok-read_feeds.ensures.text, c.in-Err-read_state.ensures.first, (c.behind-in-Err-read_state.ensures.cause, line)))
+    (split.0, rest, c.in-Ok.inventory, (found, split.1), sym (ap inventory front) ∙ c.in-Ok.ensures.read, inr (read.0, read.1.now, inner, c.in-Ok-read_feeds.ensures.writable, c.in-Ok-read_feeds.ensures.text, c.in-Err-read_state.ensures.first, (c.behind-in-Err-read_state.ensures.cause, line)))
 
 pub returns-in_default-clause-unknown : goal.returns-in_default-clause-unknown
 returns-in_default-clause-unknown c = λ u.

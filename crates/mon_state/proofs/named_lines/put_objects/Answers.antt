@@ -6,7 +6,7 @@ pub loop-object-preserved : goal.loop-object-preserved
 loop-object-preserved c =
     let so_far = c.loop-object.invariant in
     record {
-      put = put_next_index (object_line c.args.inventory.now.objects c.args.objects.now) c.loop-object.object c.args.out.now.items c.loop-object.out.items c.put_object.new.out.items so_far.put c.in_ok-put_object.ensures.ok;
+      put = put_next_index (object_line c.args.version c.args.inventory.now.objects c.args.objects.now) c.loop-object.object c.args.out.now.items c.loop-object.out.items c.put_object.new.out.items so_far.put c.in_ok-put_object.ensures.ok;
       grown = grows_on _ _ _ so_far.grown c.put_object.ensures.grown;
     }
 

@@ -3,19 +3,20 @@ use Rattle.std.proofs.lemmas.List.{length-append}
 use Rattle.mon_inventory.specs.declared.records.ObjectSpec.{ObjectSpec}
 use Rattle.mon_state.specs.Reading.{known_of, next_known}
 use Rattle.mon_state.specs.Cursors.{Fails}
+use Rattle.mon_state.proofs.WholeLemmas.{upgraded_more}
 use Rattle.mon_state.proofs.CursorLemmas.{many_more, many_fails, many_end, exit_fails, next_spec}
 use Rattle.mon_state.proofs.reading.read_objects.Goals as goal
 
-pub returns-in_err-read_known : goal.returns-in_err-read_known
-returns-in_err-read_known c =
+pub returns-in_err-read_known-clause-read : goal.returns-in_err-read_known-clause-read
+returns-in_err-read_known-clause-read c =
     let specs = c.args.inventory.now.objects in
     let w = c.loop-spec.invariant in
     let value = c.objects-spec-items.ensures.value in
     let turn = next_spec specs c.objects-spec-items.result.now c.loop-spec.spec-index (length c.loop-spec.objects.items) c.spec-item.result value w.long c.loop-spec-test.true c.spec-item.is in
     let more : c.loop-spec.spec-index + 1 ≤ length specs = (let test = c.loop-spec-test.true in let long = ap (λ (xs : List ObjectSpec). length xs) value in omega arith) in
     exit_fails _ c.from_residual.result _ c.in_err-read_known.field-0.0 c.read_known.new.cursor.last c.from_residual.ensures.1
-    (many_fails (next_known specs) (length specs - c.loop-spec.spec-index) (length specs - (c.loop-spec.spec-index + 1)) c.loop-spec.objects.items c.loop-spec.cursor.rest _ c.in_err-read_known.field-0.0 c.read_known.new.cursor.last (omega (arith, more))
-    (subst (λ (o : Option ObjectSpec). Fails c.in_err-read_known.field-0.0 c.read_known.new.cursor.last (known_of o c.loop-spec.cursor.rest)) (sym turn) c.in_err-read_known.ensures) w.left)
+    (many_fails (next_known c.args.version c.args.clock specs) (length specs - c.loop-spec.spec-index) (length specs - (c.loop-spec.spec-index + 1)) c.loop-spec.objects.items c.loop-spec.cursor.rest _ c.in_err-read_known.field-0.0 c.read_known.new.cursor.last (omega (arith, more))
+    (subst (λ (o : Option ObjectSpec). Fails c.in_err-read_known.field-0.0 c.read_known.new.cursor.last (known_of c.args.version c.args.clock o c.loop-spec.cursor.rest)) (sym turn) c.in_err-read_known.ensures.read) w.left)
 
 pub loop-spec-preserved : goal.loop-spec-preserved
 loop-spec-preserved c =
@@ -27,13 +28,14 @@ loop-spec-preserved c =
     record {
       long = omega (arith, ap length c.in_ok-push.ensures.items, length-append c.loop-spec.objects.items (c.in_ok-read_known.field-0 ∷ []), w.long);
       left = rw c.in_ok-push.ensures.items
-          (many_more (next_known specs) (length specs - c.loop-spec.spec-index) (length specs - (c.loop-spec.spec-index + 1)) c.loop-spec.objects.items c.in_ok-read_known.field-0 c.loop-spec.cursor.rest c.read_known.new.cursor.rest _ (omega (arith, more))
-          (ap (λ (o : Option ObjectSpec). known_of o c.loop-spec.cursor.rest) turn ∙ c.in_ok-read_known.ensures) w.left);
+          (many_more (next_known c.args.version c.args.clock specs) (length specs - c.loop-spec.spec-index) (length specs - (c.loop-spec.spec-index + 1)) c.loop-spec.objects.items c.in_ok-read_known.field-0 c.loop-spec.cursor.rest c.read_known.new.cursor.rest _ (omega (arith, more))
+          (ap (λ (o : Option ObjectSpec). known_of c.args.version c.args.clock o c.loop-spec.cursor.rest) turn ∙ c.in_ok-read_known.ensures.read) w.left);
+      first = λ one. rw c.in_ok-push.ensures.items (upgraded_more c.args.clock c.loop-spec.objects.items c.in_ok-read_known.field-0 (w.first one) (c.in_ok-read_known.ensures.first one));
     }
 
-pub returns : goal.returns
-returns c =
+pub returns-clause-read : goal.returns-clause-read
+returns-clause-read c =
     let specs = c.args.inventory.now.objects in
     let value = c.objects-spec-items.ensures.value in
     let none : length specs - c.loop-spec.spec-index ≡ 0 = (let test = c.loop-spec-test.false in let long = ap (λ (xs : List ObjectSpec). length xs) value in omega arith) in
-    many_end (next_known specs) (length specs - c.loop-spec.spec-index) c.loop-spec.objects.items c.loop-spec.cursor.rest _ none c.loop-spec.invariant.left
+    many_end (next_known c.args.version c.args.clock specs) (length specs - c.loop-spec.spec-index) c.loop-spec.objects.items c.loop-spec.cursor.rest _ none c.loop-spec.invariant.left

@@ -2,13 +2,12 @@ use Rattle.std.proofs.Common.{length}
 use Rattle.std.specs.List.{flat_map}
 use Rattle.mon_engine.specs.Report.{clock_line, program_line, contact_line, each_index}
 use Rattle.mon_engine.specs.Sound.{ever}
-use Rattle.mon_state.specs.declared.version.StateVersion.TheVariants.{One}
-use Rattle.mon_state.specs.State.{heading_line, entries_line, object_line, comments_line, comment_line, downtimes_line, downtime_line, end_line, line_count, state_text}
+use Rattle.mon_state.specs.State.{heading_line, entries_line, object_line, comments_line, comment_line, downtimes_line, downtime_line, end_line, line_count, text_of}
 use Rattle.mon_state.proofs.TextLemmas.{on_ok, all_put}
 use Rattle.mon_state.proofs.writing.put_state.Goals as goal
 
 pub returns-clause-ok : goal.returns-clause-ok
-unfolding state_text
+unfolding text_of
 returns-clause-ok c =
     let inv = c.args.monitor.now.inventory in
     let w = c.args.monitor.now.world in
@@ -19,7 +18,7 @@ returns-clause-ok c =
     let four = rw (same, c.last_comment.ensures, c.comments.ensures.value) at c.in_ok-put_notes.ensures.ok in
     on_ok c.put_schedule.result _ _
     (λ five. all_put c.args.out.now.items c.put_head.new.out.items c.put_objects.new.out.items c.put_contacts.new.out.items c.put_notes.new.out.items c.put_schedule.new.out.items
-    (heading_line One) (clock_line w.clock) (entries_line (ever w)) (program_line w.program) (each_index (object_line inv.objects w.objects) (length inv.objects)) (each_index (contact_line inv.contacts w.contacts) (length inv.contacts))
+    (heading_line c.args.version) (clock_line w.clock) (entries_line (ever w)) (program_line w.program) (each_index (object_line c.args.version inv.objects w.objects) (length inv.objects)) (each_index (contact_line inv.contacts w.contacts) (length inv.contacts))
     (comments_line w.notes) (flat_map (comment_line inv.objects) w.notes.comments) (downtimes_line w.downtimes) (flat_map (downtime_line inv.objects) w.downtimes) (end_line (line_count inv w))
     one two three four five)
     (rw (same, c.downtimes.ensures.value, c.line_count-count.ensures) at c.put_schedule.ensures.ok)

@@ -19,7 +19,7 @@ returns-clause-same g c =
     let held = c.in-Some-pop.held in
     let same = c.send_gathered.ensures.same in
     let none = c.in_ok-send_gathered.ensures.sent in
-    let sent = sent_ahead g.P.Reporter.has_told (record old { gathered = c.pop.new.self; report = c.must_wait.new.self }) c.send_gathered.new.self same none in (
+    let sent = sent_ahead g.P.Reporter.has_taken (record old { gathered = c.pop.new.self; report = c.must_wait.new.self }) c.send_gathered.new.self same none in (
       ap (with_commands c.send_gathered.new.self.side) (c.push_reserved.ensures.items ∙ ap (λ l. l ++ held ∷ []) (c.reserve_exact.ensures.items ∙ none)) ∙ ap (λ s. with_commands s (held ∷ [])) sent ∙ waited old.side first held ∙ ap (with_commands old.side) (sym c.in-Some-pop.ensures.items),
       same.1,
       λ refused told. c.wait_for.ensures.kept refused (same.2 refused (c.must_wait.ensures.kept refused told)),

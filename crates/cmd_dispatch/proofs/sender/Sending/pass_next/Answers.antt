@@ -20,9 +20,9 @@ hold_back-requires-clause-within g c κs within =
     let fed = c.requires.few in (
       omega (arith, few, ap length put.2, length-append old.gathered.items (put.0 ∷ [])),
       omega (arith, falls, covered, fed, length-ahead old.side old.gathered.items, length-ahead old.side new, ap length put.2, length-append old.gathered.items (put.0 ∷ [])),
-      kept_in_plan c.next_into.new.self (with_commands old.side new) _ (next_in_plan old.lines c.next_into.new.self (ahead old) (with_commands old.side new) (g.P.Reporter.has_told old.report) (g.P.Reporter.has_told old.report) some.0 c.requires.planned c.next_into.ensures.phase refl refl some.3
+      kept_in_plan c.next_into.new.self (with_commands old.side new) _ (next_in_plan old.lines c.next_into.new.self (ahead old) (with_commands old.side new) (g.P.Reporter.has_taken old.report) (g.P.Reporter.has_taken old.report) some.0 c.requires.planned c.next_into.ensures.phase refl refl some.3
           (λ given was.
-          subst (λ (i : Item). HasPassedOn (given ++ i ∷ []) (with_commands old.side new) (g.P.Reporter.has_told old.report)) (sym put.1)
+          subst (λ (i : Item). HasPassedOn (given ++ i ∷ []) (with_commands old.side new) (g.P.Reporter.has_taken old.report)) (sym put.1)
           (command_passed given put.0 (length (ahead old).list + 1) (ahead old) (with_commands old.side new) _ was refl
           (ap (with_commands old.side) put.2 ∙ gathered_more old.side old.gathered.items put.0)))),
     )
@@ -37,8 +37,8 @@ returns-in_ok-hold_back-in-Some-Command-clause-passed g c = λ more.
       some.0,
       λ f given stands. subst (λ (w : Waiting). Stands w f (given ++ some.0 ∷ [])) (sym same.1) (some.3 f given stands),
       λ given was.
-          still_passed (given ++ some.0 ∷ []) gathered (ahead c.hold_back.new.self) (g.P.Reporter.has_told old.report) (g.P.Reporter.has_told c.hold_back.new.self.report) same.0 same.2
-          (subst (λ (i : Item). HasPassedOn (given ++ i ∷ []) gathered (g.P.Reporter.has_told old.report)) (sym put.1)
+          still_passed (given ++ some.0 ∷ []) gathered (ahead c.hold_back.new.self) (g.P.Reporter.has_taken old.report) (g.P.Reporter.has_taken c.hold_back.new.self.report) same.0 same.2
+          (subst (λ (i : Item). HasPassedOn (given ++ i ∷ []) gathered (g.P.Reporter.has_taken old.report)) (sym put.1)
           (command_passed given put.0 (length (ahead old).list + 1) (ahead old) gathered _ was refl
           (ap (with_commands old.side) put.2 ∙ gathered_more old.side old.gathered.items put.0))),
     )
@@ -65,9 +65,9 @@ returns-in_ok-refuse-in-Some-Refused-clause-passed g c = λ more.
       some.0,
       some.3,
       λ given was.
-          subst (λ (i : Item). HasPassedOn (given ++ i ∷ []) side (g.P.Reporter.has_told c.refuse.new.self)) (sym put.0)
-          (refusal_passed given c.in-Some-Refused.line c.in-Some-Refused.fault side (g.P.Reporter.has_told old.report) (g.P.Reporter.has_told c.refuse.new.self)
-          (subst (λ (cs : List _). HasPassedOn given (with_commands old.side cs) (g.P.Reporter.has_told old.report)) (sym put.1) was) c.in_ok-refuse-in-Some-Refused.ensures.told),
+          subst (λ (i : Item). HasPassedOn (given ++ i ∷ []) side (g.P.Reporter.has_taken c.refuse.new.self)) (sym put.0)
+          (refusal_passed given c.in-Some-Refused.line c.in-Some-Refused.fault side (g.P.Reporter.has_taken old.report) (g.P.Reporter.has_taken c.refuse.new.self)
+          (subst (λ (cs : List _). HasPassedOn given (with_commands old.side cs) (g.P.Reporter.has_taken old.report)) (sym put.1) was) c.in_ok-refuse-in-Some-Refused.ensures.taken),
     )
 
 pub returns-in-None-clause-few : goal.returns-in-None-clause-few
@@ -79,22 +79,22 @@ returns-in-None-clause-few g c =
 pub returns-in_err-next_into-clause-within : goal.returns-in_err-next_into-clause-within
 returns-in_err-next_into-clause-within g c =
     let old = c.args.self.now in
-    still_within old.lines old.side old.gathered.items c.next_into.new.commands.items (g.P.Reporter.has_told old.report) c.in_err-next_into.ensures.err.1 c.requires.room.0 c.requires.covered c.requires.few c.requires.planned
+    still_within old.lines old.side old.gathered.items c.next_into.new.commands.items (g.P.Reporter.has_taken old.report) c.in_err-next_into.ensures.err.1 c.requires.room.0 c.requires.covered c.requires.few c.requires.planned
 
 pub returns-in_err-refuse-in-Some-Refused-clause-within : goal.returns-in_err-refuse-in-Some-Refused-clause-within
 returns-in_err-refuse-in-Some-Refused-clause-within g c =
     let old = c.args.self.now in
     let put = (rw c.in-Some-Refused.field-0-is at (rw c.in-Some-Refused.is at c.in_ok-next_into.ensures.some)).1 in
-    still_within old.lines old.side old.gathered.items c.next_into.new.commands.items (g.P.Reporter.has_told old.report) put.1 c.requires.room.0 c.requires.covered c.requires.few c.requires.planned
+    still_within old.lines old.side old.gathered.items c.next_into.new.commands.items (g.P.Reporter.has_taken old.report) put.1 c.requires.room.0 c.requires.covered c.requires.few c.requires.planned
 
 pub returns-in_ok-refuse-in-Some-Refused-clause-within : goal.returns-in_ok-refuse-in-Some-Refused-clause-within
 returns-in_ok-refuse-in-Some-Refused-clause-within g c =
     let old = c.args.self.now in
     let put = (rw c.in-Some-Refused.field-0-is at (rw c.in-Some-Refused.is at c.in_ok-next_into.ensures.some)).1 in
-    still_within old.lines old.side old.gathered.items c.next_into.new.commands.items (g.P.Reporter.has_told old.report) put.1 c.requires.room.0 c.requires.covered c.requires.few c.requires.planned
+    still_within old.lines old.side old.gathered.items c.next_into.new.commands.items (g.P.Reporter.has_taken old.report) put.1 c.requires.room.0 c.requires.covered c.requires.few c.requires.planned
 
 pub returns-in-None-clause-within : goal.returns-in-None-clause-within
 returns-in-None-clause-within g c =
     let old = c.args.self.now in
     let kept = rw c.in-None.is at c.in_ok-next_into.ensures.kept in
-    still_within old.lines old.side old.gathered.items c.next_into.new.commands.items (g.P.Reporter.has_told old.report) kept.1 c.requires.room.0 c.requires.covered c.requires.few c.requires.planned
+    still_within old.lines old.side old.gathered.items c.next_into.new.commands.items (g.P.Reporter.has_taken old.report) kept.1 c.requires.room.0 c.requires.covered c.requires.few c.requires.planned

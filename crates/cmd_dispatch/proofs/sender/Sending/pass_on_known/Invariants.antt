@@ -6,8 +6,8 @@ use Rattle.cmd_dispatch.proofs.sender.Sending.pass_on_known.Given as goal
 
 abbrev pub invariant-items : goal.invariant-items
 invariant-items g l = record {
-  giving : (f : List ℕ) (given : List Item) → Stands l.fn.self.lines f given → HasPassedOn given (ahead l.fn.self) (g.P.Reporter.has_told l.fn.self.report)
-      → IsGiving f l.self.lines (ahead l.self) (g.P.Reporter.has_told l.self.report);
+  giving : (f : List ℕ) (given : List Item) → Stands l.fn.self.lines f given → HasPassedOn given (ahead l.fn.self) (g.P.Reporter.has_taken l.fn.self.report)
+      → IsGiving f l.self.lines (ahead l.self) (g.P.Reporter.has_taken l.self.report);
   covered : IsCovered l.self.lines (ahead l.self);
   within : IsWithin l.self;
   room : HasRoom l.self;

@@ -6,7 +6,7 @@ use Rattle.cmd_dispatch.proofs.sender.Sending.read_text.Given as goal
 
 abbrev pub invariant-reads : goal.invariant-reads
 invariant-reads g l = record {
-  feeding : IsFeeding (g.F.Feed.tells l.fn.feed) (g.F.Feed.tells l.feed) (g.F.Feed.fills l.fn.feed) l.fn.reading.piece l.counter l.self.lines (ahead l.self) (g.P.Reporter.has_told l.self.report);
+  feeding : IsFeeding (g.F.Feed.remaining l.fn.feed) (g.F.Feed.remaining l.feed) (g.F.Feed.fills l.fn.feed) l.fn.reading.piece l.counter l.self.lines (ahead l.self) (g.P.Reporter.has_taken l.self.report);
   steady : g.F.Feed.fails l.fn.feed ≡ false → g.F.Feed.fails l.feed ≡ false;
   filling : g.F.Feed.fills l.fn.feed ≡ true → g.F.Feed.fills l.feed ≡ true;
   opened : l.self.lines.phase ≡ Open;

@@ -79,16 +79,6 @@ mark_read-requires-clause-lines c =
     let gs = item_of number c.in-Line.line.now ∷ [] in
     left_line x.kept.bytes x.number (number + 1) gs c.in-Line.rest.now (subst (λ (b : List ℕ). Passes x.number b gs (number + 1) c.in-Line.rest.now) c.bytes.ensures.value c.in-Line.ensures.1)
 
-pub invariant_of-self : goal.invariant_of-self
-invariant_of-self c =
-    let x = c.self.inside in
-    let number = c.in-Line.number in
-    let rest = c.in-Line.rest.now in
-    let gs = item_of number c.in-Line.line.now ∷ [] in
-    let p = subst (λ (b : List ℕ). Passes x.number b gs (number + 1) rest) c.bytes.ensures.value c.in-Line.ensures.1 in
-    let left = left_length x.kept c.mark_read.new.self x.number (number + 1) gs rest p c.mark_read.ensures in
-    (omega (arith, left, p.counted, c.self.invariant.0, length-append x.kept.bytes (in_place x.kept.lost)), c.self.invariant.1)
-
 pub returns-in_ok-item-in-Line-clause-falls : goal.returns-in_ok-item-in-Line-clause-falls
 returns-in_ok-item-in-Line-clause-falls c =
     let x = c.self.inside in

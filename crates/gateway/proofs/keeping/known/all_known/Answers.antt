@@ -3,8 +3,8 @@ use Rattle.std.proofs.Common.{◌≡◌, ◌<◌, ◌++◌, ◌∷◌, [], ◌+�
 use Rattle.std.proofs.lemmas.List.{map-append}
 use Rattle.mon_engine.specs.Telling.{is_clock}
 use Rattle.mon_state.specs.Feeds.{Feeds}
-use Rattle.gateway.specs.declared.start.Known.{Known}
-use Rattle.gateway.specs.Reading.{known_from}
+use Rattle.cmd_live.specs.declared.start.Known.{Known}
+use Rattle.gateway.specs.KnownFeeds.{known_from}
 use Rattle.gateway.proofs.KnownLemmas.{known_more, known_same}
 use Rattle.gateway.proofs.keeping.known.all_known.Goals as goal
 use Rattle.gateway.proofs.keeping.known.all_known.Goals.{then-not-is_clock+in_ok-push, else-not-is_clock}

@@ -1,6 +1,6 @@
 -- What stays true in the loop of `all_known`.
 use Rattle.std.proofs.Common.{◌≡◌, ◌++◌, map, drop}
-use Rattle.gateway.specs.Reading.{known_from}
+use Rattle.gateway.specs.KnownFeeds.{known_from}
 use Rattle.gateway.proofs.keeping.known.all_known.Given as goal
 
 abbrev pub invariant-loop-number : goal.invariant-loop-number

@@ -3,7 +3,7 @@ use Rattle.std.proofs.Common.{◌≡◌, ◌<◌, ◌+◌, List, length, map, dr
 use Rattle.std.proofs.lemmas.List.{length-map, get_or-map}
 use Rattle.mon_state.specs.Feeds.{Feeds}
 use Rattle.mon_state.specs.declared.feeds.KeptFeed.{KeptFeed}
-use Rattle.gateway.specs.Reading.{renewed}
+use Rattle.gateway.specs.KnownFeeds.{renewed}
 use Rattle.gateway.proofs.KnownLemmas.{renew_anew, renew_same, as_many, get_own}
 use Rattle.gateway.proofs.keeping.known.renew.Goals as goal
 use Rattle.gateway.proofs.keeping.known.renew.Goals.{then-begins_anew, else-begins_anew}

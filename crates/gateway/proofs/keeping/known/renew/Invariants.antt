@@ -1,5 +1,5 @@
 use Rattle.std.proofs.Common.{◌≡◌, length, map, drop}
-use Rattle.gateway.specs.Reading.{renewed}
+use Rattle.gateway.specs.KnownFeeds.{renewed}
 use Rattle.gateway.proofs.keeping.known.renew.Given as goal
 
 abbrev pub invariant-loop-place : goal.invariant-loop-place

@@ -21,7 +21,7 @@ invariant_of-self c =
 pub returns-clause-taken : goal.returns-clause-taken
 returns-clause-taken c =
     let os = c.self.inside.list.items in
-    let f = object_after c.args.check.code c.args.check.output c.args.check.host_up c.args.check.soft_hosts c.args.check.max in
+    let f = object_after c.args.check.clock c.args.check.code c.args.check.output c.args.check.host_up c.args.check.soft_hosts c.args.check.max in
     let at = read_at os c.args.self.now c.args.object c.index_mut-known.result.now c.self.view_is c.requires.object c.index_mut-known.ensures.value in
     ap (slice_set os c.args.object) c.take_result-checked.ensures.object ∙ sym (ap (change_to os c.args.object f) at) ∙ ap (λ (v : List Object). changed_at v c.args.object f) c.self.view_is
 

@@ -1,4 +1,3 @@
-use Rattle.std.proofs.Common.{◌∙◌}
 use Rattle.mon_notes.proofs.notes.Notes.restore.Goals as goal
 
 pub invariant_of-result : goal.invariant_of-result

@@ -1,4 +1,0 @@
-use Rattle.cmd_answer.proofs.stop.tell_open.Goals as goal
-
-pub returns : goal.returns
-returns g c = record { told = rw c.as_bytes.ensures.value at c.write_pieces.ensures.whole; part = rw c.as_bytes.ensures.value at c.write_pieces.ensures.part }

@@ -1,0 +1,7 @@
+-- The lemmas of live operation.
+pub mod FollowLemmas
+pub mod ReadingLemmas
+pub mod StartLemmas
+pub mod ClockLemmas
+pub mod PipeLemmas
+pub mod ToldLemmas

@@ -1,6 +1,0 @@
-use Rattle.gateway.proofs.FollowLemmas.{contains_at}
-use Rattle.gateway.proofs.live.opening.open_feeds.Goals as goal
-
-pub returns-in-None-opened_or_absent-clause-stops : goal.returns-in-None-opened_or_absent-clause-stops
-returns-in-None-opened_or_absent-clause-stops g c =
-    c.unopened.ensures _ (contains_at (λ gate. gate.path.now) c.args.gates.now c.loop-feed.feed c.index-gates-feed.result c.loop-feed-test.true c.index-gates-feed.is)

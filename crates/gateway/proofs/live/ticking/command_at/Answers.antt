@@ -1,5 +1,0 @@
-use Rattle.gateway.proofs.ClockLemmas.{tick_made}
-use Rattle.gateway.proofs.live.ticking.command_at.Goals as goal
-
-pub returns : goal.returns
-returns c = tick_made c.in-Ok.command c.args.now c.in-Ok.ensures.ok c.in-Ok.ensures.fits

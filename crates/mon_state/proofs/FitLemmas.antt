@@ -1,0 +1,125 @@
+-- The line of the first part that does not fit: where it stands is a number that a line can have, and it is the fault.
+use Rattle.std.proofs.Common.{◌≡◌, inl, inr, ℕ, zero, suc, ◌<◌, ◌≤◌, ◌^◌, List, [], ◌∷◌, length, Option, Some, None, Ok, slice_get, refl, ap, sym, ◌∙◌, subst, arith}
+use Rattle.std.specs.Prelude.{IfSome}
+use Rattle.std.specs.Option.{option_map, unwrap_or}
+use Rattle.std.proofs.lemmas.Bool.{cases_lt}
+use Rattle.std.proofs.lemmas.Option.{slice_get_past}
+use Rattle.mon_notes.specs.declared.comment.Comment.{Comment}
+use Rattle.mon_notes.specs.Comments.{id_before, ComesAfter}
+use Rattle.mon_inventory.specs.declared.records.ObjectSpec.{ObjectSpec}
+use Rattle.mon_inventory.specs.Configuration.{Configuration}
+use Rattle.mon_engine.specs.declared.object.Object.{Object}
+use Rattle.mon_engine.specs.declared.parts.Misfit.{Misfit}
+use Rattle.mon_engine.specs.declared.parts.Misfit.TheVariants as part
+use Rattle.mon_engine.specs.declared.parts.ResumeFault.{ResumeFault}
+use Rattle.mon_engine.specs.declared.parts.ResumeFault.TheVariants as fault
+use Rattle.mon_engine.specs.declared.state.TheConstants.{GREATEST_BEFORE}
+use Rattle.mon_engine.specs.World.{World}
+use Rattle.mon_engine.specs.Saved.{IsSaved}
+use Rattle.mon_engine.specs.Misfits.{FitsLine, IsFirstMisfit, NamesFirstMisfit}
+use Rattle.mon_state.specs.declared.fault.StateCause.TheVariants.{BadValue}
+use Rattle.mon_state.specs.declared.version.StateVersion.{StateVersion}
+use Rattle.mon_state.specs.Reading.{version_at, world_at}
+use Rattle.mon_state.specs.Faults.{line_of_part, IsStateFault}
+
+-- ---- how many there are
+
+past : {X : Type 0} (xs : List X) (n : ℕ) → slice_get xs n ≡ None → length xs ≤ n
+past [] n is = omega arith
+past (x ∷ xs) zero is = absurd (cc)
+past (x ∷ xs) (suc n) is = let rest = past xs n is in omega (arith, rest)
+
+-- ids that ascend are at least as great as the number of comments
+ids_grow : (last : ℕ) (cs : List Comment) (n : ℕ) → n ≤ length cs → ((k : ℕ) → k < n → ComesAfter last cs k) → (n ≤ id_before cs n) × (id_before cs n ≤ last)
+ids_grow last cs zero h all = (omega arith, omega arith)
+ids_grow last cs (suc n) h all = by (ids_grow last cs n (omega (arith, h)) (λ k l. all k (omega (arith, l)))) (slice_get cs n) refl (all n (omega arith))
+  where
+    by : (n ≤ id_before cs n) × (id_before cs n ≤ last) → (o : Option Comment) → slice_get cs n ≡ o → IfSome o (λ c. (id_before cs n < c.id) × (c.id ≤ last)) → (suc n ≤ unwrap_or (option_map (λ c. c.id) o) 0) × (unwrap_or (option_map (λ c. c.id) o) 0 ≤ last)
+    by before None is w = absurd (let high = past cs n is in omega (arith, h, high))
+    by before (Some c) is w = (let least = before.0 in let above = w.0 in omega (arith, least, above), w.1)
+
+-- past the end of a list nothing is said
+beyond : {X : Type 0} (P : X → Type 0) (xs : List X) (k : ℕ) → length xs ≤ k → IfSome (slice_get xs k) P
+beyond {X} P xs k h = subst (λ (o : Option X). IfSome o P) (sym (slice_get_past xs k h)) tt
+
+none_there : (before : ℕ) (o : Option Object) → FitsLine before None o → o ≡ None
+none_there before None w = refl
+none_there before (Some o) w = absurd w
+
+few_objects : (inv : Configuration) (w : World) (place : ℕ) → IsFirstMisfit inv w (part.Object place) → place ≤ length inv.objects
+few_objects inv w place h = elim (cases_lt (length inv.objects) place) [
+  | inl far ↦ absurd (let n = length inv.objects in
+      let line : slice_get inv.objects n ≡ None = slice_get_past inv.objects n (omega arith) in
+      let fit : FitsLine w.before None (slice_get w.objects n) = subst (λ (s : Option ObjectSpec). FitsLine w.before s (slice_get w.objects n)) line (h.first (part.Object n) (inr (refl, far))) in
+      let short = past w.objects n (none_there w.before (slice_get w.objects n) fit) in
+      h.misfit
+      (subst (λ (s : Option ObjectSpec). FitsLine w.before s (slice_get w.objects place)) (sym (slice_get_past inv.objects place (omega (arith, far))))
+      (subst (λ (o : Option Object). FitsLine w.before None o) (sym (slice_get_past w.objects place (omega (arith, short, far)))) tt)))
+  | inr near ↦ near
+]
+
+-- before the comments the count of entries and the greatest id are in range
+few_ids : (w : World) (n : ℕ) → n ≤ length w.notes.comments → w.before ≤ GREATEST_BEFORE → w.notes.last_id ≤ w.before → ((k : ℕ) → k < n → ComesAfter w.notes.last_id w.notes.comments k) → n ≤ GREATEST_BEFORE
+few_ids w n h room last all = let grown = ids_grow w.notes.last_id w.notes.comments n h all in omega (arith, grown.0, grown.1, last, room)
+
+few_comments : (inv : Configuration) (w : World) (place : ℕ) → IsFirstMisfit inv w (part.Comment place) → place ≤ GREATEST_BEFORE
+few_comments inv w place h = elim (cases_lt place (length w.notes.comments)) [
+  | inl low ↦ few_ids w place (omega (arith, low)) (h.first part.Before (inl (omega arith))) (h.first part.LastComment (inl (omega arith))) (λ k l. (h.first (part.Comment k) (inr (refl, l))).0)
+  | inr high ↦ absurd (h.misfit (beyond _ w.notes.comments place high, beyond _ w.notes.comments place high))
+]
+
+all_comments : (w : World) → w.before ≤ GREATEST_BEFORE → w.notes.last_id ≤ w.before → ((k : ℕ) → ComesAfter w.notes.last_id w.notes.comments k) → length w.notes.comments ≤ GREATEST_BEFORE
+all_comments w room last all = few_ids w (length w.notes.comments) (omega arith) room last (λ k _. all k)
+
+few_downtimes : (inv : Configuration) (w : World) (place : ℕ) → IsFirstMisfit inv w (part.Downtime place) → place < length w.downtimes
+few_downtimes inv w place h = elim (cases_lt place (length w.downtimes)) [
+  | inl low ↦ low
+  | inr high ↦ absurd (h.misfit (beyond _ w.downtimes place high))
+]
+
+-- ---- the line
+
+line_fits : (inv : Configuration) (w : World) (found : Misfit) → length inv.objects < 2 ^ 16 → length inv.contacts < 2 ^ 16 → IsFirstMisfit inv w found → line_of_part (length inv.objects) (length inv.contacts) (length w.notes.comments) found < 2 ^ 64
+line_fits inv w part.Clock os cs h = omega arith
+line_fits inv w part.Before os cs h = omega arith
+line_fits inv w (part.Object place) os cs h = let few = few_objects inv w place h in omega (arith, few, os)
+line_fits inv w part.Contacts os cs h = omega (arith, os)
+line_fits inv w part.LastComment os cs h = omega (arith, os, cs)
+line_fits inv w (part.Comment place) os cs h = let few = few_comments inv w place h in omega (arith, few, os, cs)
+line_fits inv w part.Downtimes os cs h =
+    let few = all_comments w (h.first part.Before (inl (omega arith))) (h.first part.LastComment (inl (omega arith))) (λ k. (h.first (part.Comment k) (inl (omega arith))).0) in
+    omega (arith, few, os, cs)
+line_fits inv w (part.Downtime place) os cs h =
+    let room = h.first part.Before (inl (omega arith)) in
+    let few = all_comments w room (h.first part.LastComment (inl (omega arith))) (λ k. (h.first (part.Comment k) (inl (omega arith))).0) in
+    let most = h.first part.Downtimes (inl (omega arith)) in
+    let low = few_downtimes inv w place h in
+    omega (arith, few, os, cs, room, most, low)
+
+same_line : (a a' b b' n n' : ℕ) (found found' : Misfit) → a ≡ a' → b ≡ b' → n ≡ n' → found ≡ found' → line_of_part a b n found ≡ line_of_part a' b' n' found'
+same_line a a' b b' n n' found found' os cs ns is =
+    ap (λ k. line_of_part k b n found) os ∙ ap (λ k. line_of_part a' k n found) cs ∙ ap (λ k. line_of_part a' b' k found) ns ∙ ap (line_of_part a' b' n') is
+
+-- what the reader knows of a fault with which no monitor resumes, and how it has counted
+pub record IsCounted (inv : Configuration) (w : World) (f : ResumeFault) (found named : Misfit) (objects contacts comments : ℕ) : Type 0 where
+  pub is : f ≡ fault.Misfit found
+  pub first : NamesFirstMisfit inv w f
+  pub objects_are : objects ≡ length inv.objects
+  pub contacts_are : contacts ≡ length inv.contacts
+  pub comments_are : comments ≡ length w.notes.comments
+  pub named_is : named ≡ found
+
+counted_line : (inv : Configuration) (w : World) (f : ResumeFault) (found named : Misfit) (objects contacts comments : ℕ) → IsCounted inv w f found named objects contacts comments → line_of_part objects contacts comments named ≡ line_of_part (length inv.objects) (length inv.contacts) (length w.notes.comments) found
+counted_line inv w f found named objects contacts comments h = same_line objects _ contacts _ comments _ named found h.objects_are h.contacts_are h.comments_are h.named_is
+
+counted_first : (inv : Configuration) (w : World) (f : ResumeFault) (found named : Misfit) (objects contacts comments : ℕ) → IsCounted inv w f found named objects contacts comments → IsFirstMisfit inv w found
+counted_first inv w f found named objects contacts comments h = subst (NamesFirstMisfit inv w) h.is h.first
+
+pub counted_fits : (inv : Configuration) (w : World) (f : ResumeFault) (found named : Misfit) (objects contacts comments : ℕ) → objects < 2 ^ 16 → contacts < 2 ^ 16 → IsCounted inv w f found named objects contacts comments → line_of_part objects contacts comments named < 2 ^ 64
+counted_fits inv w f found named objects contacts comments os cs h =
+    subst (λ k. k < 2 ^ 64) (sym (counted_line inv w f found named objects contacts comments h))
+    (line_fits inv w found (let many = h.objects_are in omega (arith, os, many)) (let many = h.contacts_are in omega (arith, cs, many)) (counted_first inv w f found named objects contacts comments h))
+
+pub misfit_fault : (version : StateVersion) (inv : Configuration) (text behind read : List ℕ) (w : World) (f : ResumeFault) (found named : Misfit) (objects contacts comments line : ℕ) → version_at text ≡ Ok (version, behind) → read ≡ behind → world_at version inv read ≡ Ok w → (IsSaved inv w → ⊥) → IsCounted inv w f found named objects contacts comments → line ≡ line_of_part objects contacts comments named → IsStateFault inv text (record { line = line; cause = BadValue })
+misfit_fault version inv text behind read w f found named objects contacts comments line heading same gives lost h at =
+    inr (inr (inr (inl (version, w, found, (behind, heading, ap (world_at version inv) (sym same) ∙ gives), lost, counted_first inv w f found named objects contacts comments h, refl, at ∙ counted_line inv w f found named objects contacts comments h))))
