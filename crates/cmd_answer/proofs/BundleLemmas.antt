@@ -1,4 +1,4 @@
--- The parts of a bundle, of which the first is the inventory's text and the others are its feeds.
+-- The parts of a bundle: the first is the inventory's text, and the others are the feeds.
 use Rattle.std.proofs.Common.{◌≡◌, ℕ, ◌≤◌, ◌-◌, Bool, List, [], ◌∷◌, Bor, length, map, take, drop, get_or, refl, ap, sym, ◌∙◌, subst, arith}
 use Rattle.std.specs.Prelude.{◌||◌}
 use Rattle.std.specs.List.{list_any}
@@ -7,7 +7,7 @@ use Rattle.std.proofs.lemmas.List.{length-map, take_all}
 use Rattle.cmd_types.specs.Entries.{IsSenderCount}
 use Rattle.cmd_answer.specs.Stops.{has_twice}
 
--- a list by its first item and those behind it
+-- a list is its first item and the rest
 pub head_parts : {A B : Type 0} (f : A → B) (xs : List A) (d : A) → 1 ≤ length xs → map f xs ≡ f (get_or xs 0 d) ∷ map f (take (length xs - 1) (drop 1 xs))
 head_parts f [] d h = absurd (omega arith)
 head_parts {A = A} f (x ∷ xs) d h = ap (λ (ys : List A). f x ∷ map f ys) (sym (take_all (length (x ∷ xs) - 1) xs (omega arith)))
@@ -16,7 +16,7 @@ any_map : {A B : Type 0} (f : A → B) (t : B → Bool) (xs : List A) → list_a
 any_map f t [] = refl
 any_map f t (x ∷ xs) = ap (λ (b : Bool). t (f x) || b) (any_map f t xs)
 
--- whether a path stands twice, by the first one and those behind it
+-- whether two paths are equal, by the first path and the rest
 pub twice_parts : (paths : List (Bor (List ℕ))) (d : Bor (List ℕ)) → 1 ≤ length paths → (among behind : Bool)
     → among ≡ list_any (λ other. bytes_eq other.now (get_or paths 0 d).now) (take (length paths - 1) (drop 1 paths)) → behind ≡ has_twice (map (λ p. p.now) (take (length paths - 1) (drop 1 paths)))
     → (among || behind) ≡ has_twice (map (λ p. p.now) paths)

@@ -8,7 +8,7 @@ use Rattle.cmd_types.specs.Cuts.{IsCut}
 use Rattle.cmd_types.specs.TextLines.{split_lines, joined, lines_left}
 use Rattle.cmd_answer.specs.Parts.{is_separator, with_feed, texts, parts, prepend, prepend_first, first_texts, divided}
 
--- ---- a line of a text with what follows it
+-- ---- a line of a text and the text after it
 
 feed_before_some : (line : List ℕ) (lines : List (List ℕ)) (n : ℕ) → length lines ≡ n + 1 → with_feed line lines ≡ line ++ 10 ∷ []
 feed_before_some line [] n e = absurd (omega (arith, e))
@@ -18,27 +18,27 @@ feed_before_text : (line text : List ℕ) → with_feed line (split_lines text) 
 unfolding split_lines
 feed_before_text line text = feed_before_some line (slice_split (λ b. b == 10) text) _ (length-slice_split (λ b. b == 10) text)
 
--- the line with its feed, and what is left behind it
+-- the line with its line feed, and the text after it
 whole_line : (text line : List ℕ) (left : Option (List ℕ)) → IsCut 10 text line left → text ≡ with_feed line (lines_left left) ++ unwrap_or left []
 whole_line text line None cut = cut ∙ sym (append-nil line)
 whole_line text line (Some after) cut =
     cut ∙ sym (ap (λ (l : List ℕ). l ++ after) (feed_before_text line after) ∙ append_assoc line (10 ∷ []) after)
 
--- what is left is its lines, joined
+-- the rest of the text is its lines, joined
 joined_left : (left : Option (List ℕ)) → joined (lines_left left) ≡ unwrap_or left []
 unfolding split_lines
 joined_left None = refl
 joined_left (Some text) = join_with_byte-slice_split 10 text
 
--- ---- where the lines have come to in a part: behind the front
+-- ---- a part while its lines are read: the front and the rest
 
--- the front of a part, before what is ahead
+-- the front of a part, before the text ahead
 front_of : (part front ahead : List ℕ) → part ≡ front ++ ahead → take (length part - length ahead) part ≡ front
 front_of part front ahead e =
     let long : length part - length ahead ≡ length front = omega (arith, ap length e, length-append front ahead) in
     rw long (ap (take (length front)) e ∙ take-append_seam front ahead)
 
--- the part goes on with the line
+-- the line belongs to the current part
 front_more : (part front ahead text line : List ℕ) (left : Option (List ℕ)) → part ≡ front ++ ahead → ahead ≡ text → IsCut 10 text line left → part ≡ (front ++ with_feed line (lines_left left)) ++ unwrap_or left []
 front_more part front ahead text line left e is cut =
     e ∙ ap (λ (t : List ℕ). front ++ t) (is ∙ whole_line text line left cut) ∙ sym (append_assoc front (with_feed line (lines_left left)) (unwrap_or left []))
@@ -61,7 +61,7 @@ prepend_twice : (a b : List ℕ) (ts : List (List ℕ)) → prepend a (prepend b
 prepend_twice a b [] = refl
 prepend_twice a b (t ∷ ts) = ap (λ (x : List ℕ). x ∷ ts) (sym (append_assoc a b t))
 
--- of the input these parts are done, the front of the one in hand is read, and this is left
+-- these parts of the input are complete, the front of the current part is read, and `ahead` is the rest
 pub record IsDividing (input part ahead : List ℕ) (left : Option (List ℕ)) (done : List (List ℕ)) : Type 0 where
   pub front : List ℕ
   pub whole : part ≡ front ++ ahead
@@ -102,7 +102,7 @@ first_twice : (a b : List ℕ) (o : Option (List ℕ × List ℕ)) → prepend_f
 first_twice a b None = refl
 first_twice a b (Some two) = ap (λ (t : List ℕ). Some (t, two.1)) (sym (append_assoc a b two.0))
 
--- none of the lines in front is a separator, and this is left
+-- no line of the front is a separator, and `ahead` is the rest
 pub record IsSeeking (input ahead : List ℕ) (left : Option (List ℕ)) : Type 0 where
   pub front : List ℕ
   pub whole : input ≡ front ++ ahead

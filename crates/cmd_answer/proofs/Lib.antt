@@ -1,4 +1,4 @@
--- The lemmas of what is answered.
+-- Lemmas on the texts and the stops of a call, a file a subject.
 pub mod Divides
 pub mod SenderLemmas
 pub mod BundleLemmas

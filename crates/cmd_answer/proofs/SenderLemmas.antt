@@ -1,4 +1,4 @@
--- Putting down the lines on the feeds, one after another.
+-- The lines on the feeds are appended one after another.
 use Rattle.std.proofs.Common.{◌≡◌, ℕ, ◌+◌, ◌<◌, ◌≤◌, List, ◌∷◌, ◌++◌, length, drop, get_or, append_assoc, ap, sym, ◌∙◌}
 use Rattle.std.proofs.lemmas.List.{append-nil, drop_all, drop_more}
 use Rattle.cmd_run.specs.declared.ending.SenderReport.{SenderReport}

@@ -10,7 +10,7 @@ use Rattle.cmd_answer.specs.declared.stop.FilesStop.TheVariants.{Open, OpenPassi
 use Rattle.cmd_answer.specs.declared.stop.Stop.{Stop}
 use Rattle.cmd_answer.specs.declared.stop.Stop.TheVariants as stop
 
--- the first line of an inventory with a fault is why there is none
+-- a faulty line of the inventory is a reason for which there is none
 pub fault_stops : (text : List ℕ) (line : ℕ) (cause : Cause) → (cause ≢ in_inventory.Memory → inventory text ≡ Err (line, cause))
     → (Q : Stop → Type 0) → Q stop.Memory → ((number : ℕ) → IsInventoryFault text line number → Q (stop.Inventory line number)) → Q (inventory_stop line cause)
 fault_stops text line in_inventory.Memory is Q memory fault = memory
@@ -23,12 +23,12 @@ fault_stops text line in_inventory.UnknownService is Q memory fault = fault _ (i
 fault_stops text line in_inventory.UnknownContact is Q memory fault = fault _ (in_inventory.UnknownContact, is (λ e. absurd (cc)), refl)
 fault_stops text line in_inventory.TooMany is Q memory fault = fault _ (in_inventory.TooMany, is (λ e. absurd (cc)), refl)
 
--- a file that was not opened is why not all are
+-- a file that was not opened is a reason for which not all are
 module _ (path : Bor (List ℕ)) (P Q : Type 0) (s : FilesStop) (is : (P × (s ≡ OpenPassing path)) ⊎ (Q × (s ≡ Open path))) where
   pub unopened_stops : (paths : List (List ℕ)) → Contains paths path.now → StopsOpening paths s
   unopened_stops paths h = ⊎_elim (λ w. subst (StopsOpening paths) (sym w.1) h) (λ w. subst (StopsOpening paths) (sym w.1) h) is
 
--- so it is why there is none in a file
+-- each is a reason for which there is no inventory in a file
 pub stopped_inventory : {F : Type 0} (remaining : F → Option (List ℕ)) (path : List ℕ) (file : F) (text : List ℕ) (line : ℕ) (cause : Cause)
     → IfSome (remaining file) (λ told. text ≡ told) → (cause ≢ in_inventory.Memory → inventory text ≡ Err (line, cause)) → StopsInventory remaining path (Other (inventory_stop line cause))
 stopped_inventory remaining path file text line cause told is =

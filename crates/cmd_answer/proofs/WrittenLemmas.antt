@@ -1,4 +1,4 @@
--- A beginning of a text was appended.
+-- A prefix of a text was appended.
 use Rattle.std.proofs.Common.{◌≡◌, ℕ, ◌+◌, ◌-◌, ◌<◌, List, [], ◌∷◌, ◌++◌, Option, Result, Ok, Err, OnErr, length, length-append, length-drop, arith, map, get_or, take, drop, refl, sym, ap, ◌∙◌, subst, append-nil, append_assoc, take-append-drop}
 use Rattle.std.specs.Io.KnownBytes.{Appends}
 use Rattle.std.proofs.KnownBytes.{Appends-trans}
@@ -6,18 +6,18 @@ use Rattle.std.proofs.lemmas.List.{take_all, take_more, map-append}
 use Rattle.std.proofs.Math.Seq.{take-add}
 use Rattle.cmd_answer.specs.Written.{AppendsPart, joined}
 
--- so many of its bytes
+-- the first `n` bytes of a text are a prefix
 pub part_at : (a b : Option (List ℕ)) (n : ℕ) (text : List ℕ) → n < length text → Appends a b (take n text) → AppendsPart a b text
 part_at a b n text some written = record { part = take n text; rest = drop n text; begins = sym (take-append-drop n text); missing = omega (arith, length-drop n text); appended = written }
 
--- one write more, of a beginning of the rest
+-- one more write appends a prefix of the rest
 pub written_more : (a b c : Option (List ℕ)) (n m : ℕ) (text : List ℕ) → Appends a b (take n text) → Appends b c (take m (take (length text - n) (drop n text))) → Appends a c (take (n + m) text)
 written_more a b c n m text first next =
     let rest : take (length text - n) (drop n text) ≡ drop n text = take_all (length text - n) (drop n text) (omega (arith, length-drop n text)) in
     let more : Appends b c (take m (drop n text)) = subst (λ (l : List ℕ). Appends b c (take m l)) rest next in
     subst (Appends a c) (sym (take-add n m text)) (Appends-trans a b c (take n text) (take m (drop n text)) first more)
 
--- a beginning of the next piece, behind all before it
+-- a prefix of the next piece, after all pieces before it
 pub part_behind : (a b c : Option (List ℕ)) (first second rest : List ℕ) → Appends a b first → AppendsPart b c second → AppendsPart a c (first ++ (second ++ rest))
 part_behind a b c first second rest written p = record {
   part = first ++ p.part;
@@ -27,7 +27,7 @@ part_behind a b c first second rest written p = record {
   appended = Appends-trans a b c first p.part written p.appended;
 }
 
--- a beginning of the first of two texts was appended, and so of both
+-- a prefix of the first of two texts is a prefix of both
 pub part_first : (a b : Option (List ℕ)) (first second : List ℕ) → AppendsPart a b first → AppendsPart a b (first ++ second)
 part_first a b first second p = record {
   part = p.part;
@@ -37,7 +37,7 @@ part_first a b first second p = record {
   appended = p.appended;
 }
 
--- the first of two texts was appended and a beginning of the second, and so a beginning of both
+-- the first of two texts and a prefix of the second are a prefix of both
 pub part_second : (a b c : Option (List ℕ)) (first second : List ℕ) → Appends a b first → AppendsPart b c second → AppendsPart a c (first ++ second)
 part_second a b c first second written p = record {
   part = first ++ p.part;
@@ -52,7 +52,7 @@ joined-append [] ys = refl
 joined-append (x ∷ xs) ys = ap (λ (l : List ℕ). x ++ l) (joined-append xs ys) ∙ sym (append_assoc x (joined xs) (joined ys))
 
 module _ {P : Type 0} (f : P → List ℕ) (ps : List P) (i : ℕ) (d : P) (low : i < length ps) where
-  -- the pieces before one, and that one
+  -- the pieces before a piece, and that piece
   pub joined_more : joined (map f (take (i + 1) ps)) ≡ joined (map f (take i ps)) ++ f (get_or ps i d)
   joined_more =
       ap (λ (l : List P). joined (map f l)) (take_more ps i d low)
@@ -60,7 +60,7 @@ module _ {P : Type 0} (f : P → List ℕ) (ps : List P) (i : ℕ) (d : P) (low 
       ∙ joined-append (map f (take i ps)) (f (get_or ps i d) ∷ [])
       ∙ ap (λ (l : List ℕ). joined (map f (take i ps)) ++ l) (append-nil (f (get_or ps i d)))
 
-  -- of one piece a beginning was appended, and of all of them
+  -- a prefix of a piece was appended, and so a prefix of all pieces
   pub joined_part : (a b c : Option (List ℕ)) → Appends a b (joined (map f (take i ps))) → AppendsPart b c (f (get_or ps i d)) → AppendsPart a c (joined (map f ps))
   joined_part a b c written p =
       let rest = joined (map f (drop (i + 1) ps)) in

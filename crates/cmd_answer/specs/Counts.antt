@@ -1,4 +1,4 @@
--- How many records of each kind an inventory has, and the line that says so.
+-- The number of records of each kind in an inventory, and the line with these numbers.
 use Rattle.std.specs.Prelude.{◌≡◌, ◌+◌, ℕ, List, [], ◌∷◌, ◌++◌, length, codes}
 use Rattle.std.specs.List.{count_by}
 use Rattle.std.specs.Option.{is_some}
@@ -6,7 +6,7 @@ use Rattle.std.specs.Fmt.{decimal}
 use Rattle.mon_inventory.specs.Configuration.{Configuration}
 use Rattle.cmd_answer.specs.declared.counts.InventoryCounts.{InventoryCounts}
 
--- the counts of the records of each kind: an object with the name of a service is a service, any other one a host
+-- the counts of the records of each kind: an object with a service name is a service, any other object a host
 pub record AreCountsOf (inv : Configuration) (c : InventoryCounts) : Type 0 where
   pub contacts : c.contacts ≡ length inv.contacts
   pub objects : c.hosts + c.services ≡ length inv.objects

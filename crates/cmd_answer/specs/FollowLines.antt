@@ -8,7 +8,7 @@ use Rattle.cmd_answer.specs.declared.follow_line.FollowLine.TheVariants.{Followi
 use Rattle.cmd_answer.specs.Printed.{ending_text}
 use Rattle.cmd_answer.specs.StateStops.{fault_text}
 
--- what all lines on one feed begin with
+-- the beginning of each line on a feed
 abbrev pub of_feed : (feed : ℕ) → (rest : List ℕ) → List ℕ
 of_feed feed rest = codes "gateway: feed " ++ (decimal feed ++ rest)
 

@@ -1,4 +1,4 @@
--- The definitions of what is answered.
+-- The definitions of the texts, stops and statuses of a call.
 pub mod Parts
 pub mod Bundles
 pub mod Files

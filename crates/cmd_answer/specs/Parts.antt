@@ -13,12 +13,12 @@ abbrev pub with_feed : (line : List ℕ) → (others : List (List ℕ)) → List
 with_feed line [] = line
 with_feed line (next ∷ others) = line ++ 10 ∷ []
 
--- a line before the first of the texts
+-- the texts, with this line put before the first of them
 abbrev pub prepend : List ℕ → List (List ℕ) → List (List ℕ)
 prepend line [] = line ∷ []
 prepend line (text ∷ texts) = (line ++ text) ∷ texts
 
--- the texts between the separators: the first, and one after each
+-- the texts between the separators: the first text, and one after each separator
 abbrev pub texts : (lines : List (List ℕ)) → List (List ℕ)
 texts [] = [] ∷ []
 texts (line ∷ lines) = if is_separator line then [] ∷ texts lines else prepend (with_feed line lines) (texts lines)
@@ -27,7 +27,7 @@ texts (line ∷ lines) = if is_separator line then [] ∷ texts lines else prepe
 abbrev pub parts : List ℕ → List (List ℕ)
 parts input = texts (split_lines input)
 
--- a line before the first of two texts that may not be there
+-- the two texts, if any, with this line put before the first of them
 abbrev pub prepend_first : List ℕ → Option (List ℕ × List ℕ) → Option (List ℕ × List ℕ)
 prepend_first line None = None
 prepend_first line (Some two) = Some (line ++ two.0, two.1)

@@ -1,4 +1,4 @@
--- What is printed for feeds that were run.
+-- The text that is printed for a run of feeds.
 use Rattle.std.specs.Prelude.{◌≡◌, ◌≤◌, ℕ, ◌+◌, ◌&&◌, Bool, true, false, if◌then◌else◌, List, [], ◌∷◌, ◌++◌, length, Option, Some, None, codes, slice_get}
 use Rattle.std.specs.List.{flat_map, list_all}
 use Rattle.std.specs.Fmt.{decimal}
@@ -45,12 +45,12 @@ refused_line k r = line (codes "refused") (decimal k ∷ decimal r.0 ∷ decimal
 abbrev pub feed_lines : (k accepted : ℕ) → Ending → List (ℕ × LineFault) → List ℕ
 feed_lines k accepted ending refused = feed_line k accepted ending ++ flat_map (refused_line k) refused
 
--- figures;ENTRIES;PROBLEMS;ACKNOWLEDGED;IN_DOWNTIME, where there are some
+-- figures;ENTRIES;PROBLEMS;ACKNOWLEDGED;IN_DOWNTIME, where there are figures
 abbrev pub figures_part : Option Figures → List ℕ
 figures_part None = []
 figures_part (Some f) = line (codes "figures") (decimal f.entries ∷ decimal f.problems ∷ decimal f.acknowledged ∷ decimal f.in_downtime ∷ [])
 
--- the figures of what a journal means, where they are asked for
+-- the figures of the state to which a journal leads, where they are asked for
 abbrev pub figures_of : (asked : Bool) → Configuration → List Entry → Option Figures
 figures_of asked inv entries = if asked then Some (figures (meaning inv entries)) else None
 
@@ -90,11 +90,11 @@ sender_status reports = if list_all is_clean reports then 0 else 1
 -- ---- a run
 
 -- the text of a run: `first`, which is the report or the line of the fault, then the lines on the feeds, the line of
--- the figures where there are some, and the journal where it is asked for
+-- the figures where there are figures, and the journal where it is asked for
 abbrev pub run_text : (first : List ℕ) → (journal : Bool) → List SenderReport → Option Figures → List Entry → List ℕ
 run_text first journal reports seen entries = first ++ sender_lines 0 reports ++ figures_part seen ++ journal_part journal entries
 
--- ---- what feeds mean
+-- ---- the text for feeds
 
 abbrev pub commands_of : (feed : List ℕ) → List Timed
 commands_of feed = commands (items feed)
@@ -102,7 +102,7 @@ commands_of feed = commands (items feed)
 abbrev pub refusals_of : (feed : List ℕ) → List (ℕ × LineFault)
 refusals_of feed = refusals (items feed)
 
--- the lines on feeds that are whole: of each the number of its commands, and its refused lines
+-- the lines on feeds that are whole: for each feed the number of its commands, and its refused lines
 unfoldable pub all_feed_lines : (k : ℕ) → (feeds : List (List ℕ)) → List ℕ
 all_feed_lines k [] = []
 all_feed_lines k (feed ∷ feeds) = feed_lines k (length (commands_of feed)) Whole (refusals_of feed) ++ all_feed_lines (k + 1) feeds
@@ -111,20 +111,20 @@ all_feed_lines k (feed ∷ feeds) = feed_lines k (length (commands_of feed)) Who
 abbrev pub status_of : (feeds : List (List ℕ)) → ℕ
 status_of feeds = if list_all (λ feed. refuses_none (refusals_of feed)) feeds then 0 else 1
 
--- The journal restricted to each feed is exactly the commands that its text spells, in order and each once, and it has
--- no other; with one feed it is that list
+-- The journal restricted to each feed is exactly the commands that its text spells, in order and each once, and the
+-- journal has no other entry; with one feed it is that list
 pub record IsInterleaving (feeds : List (List ℕ)) (journal : List Entry) : Type 0 where
   pub known : AreOf (length feeds) journal
   pub each : (k : ℕ) (feed : List ℕ) → slice_get feeds k ≡ Some feed → of_sender k journal ≡ entries_of k (commands_of feed)
   pub alone : (feed : List ℕ) → feeds ≡ feed ∷ [] → journal ≡ entries_of 0 (commands_of feed)
 
--- the report of what the journal means, the lines on the feeds, the figures of what the journal means where they are
+-- the report of the state to which the journal leads, the lines on the feeds, the figures of that state where they are
 -- asked for, and this journal where it is asked for
 abbrev pub printed : Asked → Configuration → (feeds : List (List ℕ)) → List Entry → List ℕ
 printed asked inv feeds entries =
     report inv (meaning inv entries) ++ all_feed_lines 0 feeds ++ figures_part (figures_of asked.figures inv entries) ++ journal_part asked.journal entries
 
--- the text is what is printed for the feeds, with this status, for some journal of at most `limit` entries
+-- the text is printed for the feeds, with this status, for some journal of at most `limit` entries
 pub record IsPrinted (asked : Asked) (limit : ℕ) (inv : Configuration) (feeds : List (List ℕ)) (text : List ℕ) (status : ℕ) : Type 0 where
   pub entries : List Entry
   pub interleaved : IsInterleaving feeds entries

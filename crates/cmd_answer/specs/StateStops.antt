@@ -6,7 +6,7 @@ use Rattle.cmd_answer.specs.declared.state_stop.StateWord.TheVariants as word
 use Rattle.cmd_answer.specs.declared.state_stop.StateStop.{StateStop}
 use Rattle.cmd_answer.specs.declared.state_stop.StateStop.TheVariants.{AtStart, Passing, StateLine, InventoryLine, JournalLine, Later}
 
--- the line on a text at fault: its first words, the number of the line at fault, and the number of the cause
+-- the line on a faulty text: its first words, the number of the faulty line, and the number of the cause
 abbrev pub fault_text : (begins : List ℕ) → (line cause : ℕ) → List ℕ
 fault_text begins line cause = begins ++ (decimal line ++ (codes ": " ++ (decimal cause ++ 10 ∷ [])))
 

@@ -1,8 +1,8 @@
--- The bytes that are on a stream that did not take a whole text.
+-- The bytes on a stream that did not take a whole text.
 use Rattle.std.specs.Prelude.{◌≡◌, ◌<◌, ℕ, List, [], ◌∷◌, ◌++◌, length, Option}
 use Rattle.std.specs.Io.KnownBytes.{Appends}
 
--- a beginning of the text was appended, not all of it, and nothing else
+-- a prefix of the text was appended, but not the whole text, and nothing else
 pub record AppendsPart (old new : Option (List ℕ)) (text : List ℕ) : Type 0 where
   pub part : List ℕ
   pub rest : List ℕ
@@ -10,7 +10,7 @@ pub record AppendsPart (old new : Option (List ℕ)) (text : List ℕ) : Type 0 
   pub missing : 0 < length rest
   pub appended : Appends old new part
 
--- pieces of a text, one after another
+-- the text of these pieces, one after another
 abbrev pub joined : List (List ℕ) → List ℕ
 joined [] = []
 joined (piece ∷ pieces) = piece ++ joined pieces

@@ -1,4 +1,4 @@
-//! How many records of each kind an inventory has, as the mode `check` prints it.
+//! The number of records of each kind in an inventory, as the mode `check` prints it.
 ghost use Rattle.std.specs.Prelude.{◌≡◌, IfOk, string_bytes};
 ghost use Rattle.cmd_answer.specs.Counts.{AreCountsOf, counts_line};
 
@@ -6,7 +6,7 @@ use cmd_types::Memory;
 use mon_inventory::Inventory;
 use std::alloc::Global;
 
-/// How many contacts, hosts, services and escalations an inventory has (profile).
+/// The numbers of contacts, hosts, services and escalations of an inventory (profile).
 ///
 /// ```
 /// let Ok(inventory) = Inventory::parse(alloc, b"host;web;1;0;;\n") else {

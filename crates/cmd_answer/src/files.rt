@@ -113,14 +113,14 @@ fn open_all<'a, R: Files>(
     Ok(files)
 }
 
-/// Whether `path` is one of these paths.
+/// Whether these paths include `path`.
 fn is_among(path: &str, paths: &[&str]) -> bool
     ensures { result ≡ list_any (λ other. bytes_eq other.now path.now) paths.now }
 {
     paths.iter().any(|other| *other == path)
 }
 
-/// Whether one of these paths stands there twice, byte for byte (profile). Two paths of one file are not the same path.
+/// Whether two of these paths are equal, byte for byte (profile). Two different paths of one file are not equal.
 ///
 /// ```
 /// assert!(rt; has_twice(&["checks", "web", "checks"]));
@@ -141,9 +141,9 @@ pub fn has_twice(paths: &[&str]) -> bool
 ///
 /// # Errors
 /// [`Stop::Feeds`] where there is no feed, or more than [`MOST_SENDERS`](cmd_types::MOST_SENDERS); [`Stop::FeedTwice`]
-/// where a path of a feed stands there twice. [`FilesStop::Open`] or [`FilesStop::OpenPassing`] with the path of a file
-/// that cannot be opened, or of the inventory where it cannot be read to its end. The first fault of the inventory; or
-/// out of memory.
+/// where two feeds have the same path. [`FilesStop::Open`] or [`FilesStop::OpenPassing`] with the path of a file that
+/// cannot be opened, or of the inventory where it cannot be read to its end. The first fault of the inventory; or out
+/// of memory.
 ///
 /// ```
 /// // OPTIONS: options of a run

@@ -54,7 +54,7 @@ pub enum FollowLine {
         feed: u64,
         ending: Ending,
     },
-    /// The system's clock has jumped: it has moved `seconds` seconds further than the time that passed.
+    /// The system's clock has jumped: it has moved forward by `seconds` seconds more than the time that passed.
     ClockAhead {
         seconds: u64,
     },
@@ -69,8 +69,8 @@ pub enum FollowLine {
         line: u64,
         cause: Cause,
     },
-    /// The file `told.SEGMENT` of the place behind which told lines are to be printed is not there: the lines begin at
-    /// the first later segment that is.
+    /// The file `told.SEGMENT` of the place after which told lines are to be printed is missing: the lines begin at the
+    /// first later segment that has a file.
     ToldMissing {
         segment: u64,
         line: u64,
@@ -142,9 +142,9 @@ impl FollowLine {
 /// ```
 #[derive(Clone, Copy, Debug, PartialEq, Eq)]
 pub struct AbsentFeed<'a> {
-    /// The path of the file, as the call has it. It has no line feed.
+    /// The path of the file, as the call names it. It has no line feed.
     pub path: &'a str,
-    /// Whether the file exists: then it cannot be opened or read.
+    /// Whether the file exists but cannot be opened or read.
     pub is_there: bool,
 }
 

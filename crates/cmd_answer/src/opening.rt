@@ -1,4 +1,4 @@
-//! Opens files, and distinguishes faults of the system that last from those that may pass by themselves.
+//! Opens files, and distinguishes permanent faults of the system from those that may pass by themselves.
 ghost use Rattle.std.specs.Prelude.{◌↔◌, IsTrue};
 ghost use Rattle.std.specs.IoError.{error_kind};
 ghost use Rattle.cmd_answer.specs.Passing.{MayPass};
@@ -7,8 +7,8 @@ use std::fs;
 use std::io::{Error, ErrorKind, Result};
 use std::rt::Files;
 
-/// Whether a fault of the system may pass by itself, so that the same call may succeed later: it was interrupted, there
-/// was no memory, or the system has no kind for it, as for a lack of descriptors and a fault of the device.
+/// Whether a fault of the system may pass by itself, so that the same call may succeed later: the call was interrupted,
+/// there was no memory, or the fault has no kind of its own, such as a lack of descriptors or a fault of the device.
 ///
 /// ```
 /// assert!(rt; may_pass(&Error::from(ErrorKind::OutOfMemory)));

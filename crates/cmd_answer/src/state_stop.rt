@@ -9,7 +9,7 @@ use crate::stop::print_line;
 use crate::writing::write_pieces;
 use std::io::{self, Write};
 
-/// The part of a state directory that is at fault or could not be written, as the line of the stop names it.
+/// The reason for a stop of a run over a state directory. The line of the stop has words for each reason.
 ///
 /// ```
 /// let mut errors = Vec::new(alloc);

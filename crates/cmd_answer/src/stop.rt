@@ -27,7 +27,7 @@ use std::io::{self, Write};
 /// ```
 #[derive(Clone, Copy, Debug, PartialEq, Eq)]
 pub enum Stop {
-    /// The program's arguments name no mode of it, or a value is out of its range.
+    /// The program's arguments name no mode, or a value is out of its range.
     Usage,
     /// The input could not be read to its end.
     Input,
@@ -217,15 +217,15 @@ fn print_open<E: Write>(errors: &mut E, path: &str) -> io::Result<()>
 pub enum FilesStop<'a> {
     /// The file of this path cannot be opened; or it is the inventory and cannot be read to its end.
     Open(&'a str),
-    /// The same, by a fault that may pass by itself.
+    /// The file cannot be opened or read, by a fault that may pass by itself.
     OpenPassing(&'a str),
     /// A stop for any other reason.
     Other(Stop),
 }
 
 impl FilesStop<'_> {
-    /// The exit status: 2 for a file that could not be opened, 3 where that may pass, else that of the inner stop. It is
-    /// 2 or 3.
+    /// The exit status, 2 or 3: 2 for a file that could not be opened, 3 where that may pass, else that of the inner
+    /// stop.
     pub fn status(&self) -> u8
         ensures status { result ≡ files_stop_status self.now }
         ensures above_1 { 1 < result }
@@ -237,8 +237,8 @@ impl FilesStop<'_> {
         }
     }
 
-    /// Appends the line of the stop to the error stream, for a file with its path as the call has it, and nothing else.
-    /// Takes no memory. After an error the stream has only a prefix of the line.
+    /// Appends the line of the stop to the error stream, for a file with its path as the call names it, and nothing
+    /// else. Takes no memory. After an error the stream has only a prefix of the line.
     pub fn print<E: Write>(&self, errors: &mut E) -> io::Result<()>
         ensures whole { OnOk result (Appends (E.contents errors.old) (E.contents errors.new) (files_stop_line self.now)) }
         ensures part { OnErr result (AppendsPart (E.contents errors.old) (E.contents errors.new) (files_stop_line self.now)) }

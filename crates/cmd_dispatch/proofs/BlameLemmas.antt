@@ -1,4 +1,4 @@
--- Only where a call has failed is `Output` the cause.
+-- The cause is `Output` only where a call has failed.
 use Rattle.std.specs.Prelude.{◌≡◌, Option, Some, None, Result, Ok, Err, OnErr, IfErr}
 use Rattle.std.proofs.Common.{refl, sym, subst}
 use Rattle.cmd_run.specs.declared.fault.RunCause.{RunCause}
@@ -21,12 +21,12 @@ pub blamed_in : {A : Type 0} (F : Type 0) (r : Result A RunCause) → OnErr r F 
 blamed_in F (Ok x) failed = tt
 blamed_in F (Err cause) failed = blamed F cause (λ _. failed)
 
--- what holds while nothing has failed holds after a call that fails by the output alone
+-- a property that holds while the run has not failed holds after a call whose only fault is the output
 pub whole_in : {A P : Type 0} (r : Result A RunCause) → IfErr r (λ c. c ≡ Output) → P → WhileWhole (fault_in r) P
 whole_in (Ok x) is p = p
 whole_in {P = P} (Err cause) is p = subst (λ (c : RunCause). WhileWhole (Some c) P) (sym is) tt
 
--- what the log does not know of is no blame
+-- a fault of which the log does not know is not `Output`
 pub blamed_known : (F : Type 0) (cause : Option RunCause) → IsBlamed F (fault_known cause) → IsBlamed F cause
 blamed_known F None is = tt
 blamed_known F (Some BadOptions) is = tt

@@ -26,7 +26,7 @@ all_set : (F : ℕ → SeatView → Type 0) (views : List SeatView) (i : ℕ) (w
 all_set F views i w mine others j u e = ⊎_elim (λ (x : (j ≡ i) × (w ≡ u)). subst (λ (y : ℕ × SeatView). F y.0 y.1) (λ k. (sym x.0 k, x.1 k)) mine)
     (λ (x : (j ≢ i) × (get_elem? views j ≡ some u)). others j u x.0 x.1) (at_set views i j w u e)
 
--- a word of one number, read, and written
+-- reading and writing a table of one word
 read_one : (words : List ℕ) (n : ℕ) → words ≡ n ∷ [] → slice_index words 0 ≡ n
 read_one words n e = ap (λ l. slice_index l 0) e
 
@@ -158,7 +158,7 @@ joins inventory seat v other w may reads s r at apart there =
     each published seen kept zero front e = subst (λ l. BeginsWith published l) (some-injective w.seen front e) seen
     each published seen kept (suc i) front e = kept i front e
 
--- what the first kept list of a checked seat says
+-- the first kept list of a checked seat is a prefix of the published list
 pub gathered : (v w : SeatView) (m n : Sat) (slots : List (ℕ × ℕ)) → m ≡ (keeping v w, slots) → Checked m n → BeginsWith v.published w.seen
 gathered v w m n slots e c = (subst (λ (x : Sat). ArePrefixes x.0.kept x.0.published) e c.1) 0 w.seen refl
 

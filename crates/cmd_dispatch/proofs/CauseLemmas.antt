@@ -1,4 +1,4 @@
--- Why a run has no report, and what is known by it of the entries passed to the log.
+-- The cause for which a run has no report, and the facts on the entries passed to the log that it implies.
 use Rattle.std.proofs.Common.{◌≡◌, ◌≢◌, ◌==◌, ◌<◌, ◌≤◌, ◌+◌, ℕ, Bool, true, false, List, [], length, map, get_or, refl, sym, ap, ◌∙◌, subst, arith, append-nil, Option, None, Some}
 use Rattle.std.specs.List.{sum_by}
 use Rattle.std.proofs.lemmas.List.{get_or-map}
@@ -36,7 +36,7 @@ pub none_before : (first fault : Option RunCause) → Stands first fault → fau
 none_before None fault stands none = refl
 none_before (Some c) fault stands none = absurd (let h : Some c ≡ None = sym stands ∙ none in cc)
 
--- a sender is reported to have stopped only where nothing failed
+-- the cause is a sender that stopped only where there is no other fault
 pub free_if_stopped : (all : Bool) (count j : ℕ) (first fault : Option RunCause) (reports : List SenderReport) → IsSpawned all count first → Stands first fault → IsCause fault reports (Some (cause.SenderStopped j)) → fault ≡ None
 free_if_stopped all count j first None reports spawned stands is = refl
 free_if_stopped true count j first (Some d) reports spawned stands is =
@@ -50,7 +50,7 @@ pub spawn_some : (all : Bool) (count : ℕ) (d : RunCause) → IsSpawned all cou
 spawn_some true count d is = absurd (let h : Some d ≡ None = is in cc)
 spawn_some false count d is = is
 
--- what the dispatcher fails by is known to the log
+-- the log knows the cause by which the dispatcher fails
 pub may_fail_known : (d : RunCause) → MayFail (Some d) → fault_known (Some d) ≡ Some d
 may_fail_known cause.BadOptions may = absurd may
 may_fail_known cause.Memory may = refl
@@ -60,7 +60,7 @@ may_fail_known cause.QueueLost may = refl
 may_fail_known (cause.SenderStopped k) may = absurd may
 may_fail_known cause.Output may = refl
 
--- what was passed to the log begins what was taken
+-- the entries that were passed to the log are a prefix of the taken entries
 pub logged_begins : (first : Option RunCause) (taken : List Entry) → BeginsWith taken (logged first taken)
 logged_begins None taken = ([], sym (append-nil taken))
 logged_begins (Some c) taken = (taken, refl)
@@ -69,7 +69,7 @@ pub logged_all : (first : Option RunCause) (taken : List Entry) → first ≡ No
 logged_all None taken none = refl
 logged_all (Some c) taken none = absurd (let h : Some c ≡ None = none in cc)
 
--- what is known by what the dispatcher failed by
+-- the facts that the cause of the dispatcher's failure implies
 pub of_failure : (readers : ℕ) (c : RunCause) (taken : List Entry) (reports : List SenderReport) → length reports ≡ readers → length taken ≤ sum_by (λ r. r.accepted) reports → MayFail (Some c) → IsEndedBy readers c taken reports
 of_failure readers cause.BadOptions taken reports all few may = may
 of_failure readers cause.Memory taken reports all few may = (all, few)

@@ -1,4 +1,4 @@
--- How many entries there are of all senders, by how many there are of each.
+-- The number of entries of all senders, by the number of each.
 use Rattle.std.proofs.Common.{◌≡◌, ◌==◌, ◌≤◌, ◌<◌, ℕ, suc, ◌+◌, Bool, true, false, not, cond, List, [], ◌∷◌, length, get_or, refl, subst, arith}
 use Rattle.std.specs.List.{filter, sum_by}
 use Rattle.std.proofs.lemmas.List.Filters.{length-filter_both}
@@ -8,11 +8,11 @@ use Rattle.cmd_journal.specs.Journals.{of_sender}
 use Rattle.cmd_run.specs.declared.ending.SenderReport.{SenderReport}
 use Rattle.cmd_run.specs.Senders.{AreOf}
 
--- those that are not of this sender
+-- the entries that are not of this sender
 others : ℕ → List Entry → List Entry
 others s es = filter (λ e. not (e.sender == s)) es
 
--- all are of this sender or of one behind it
+-- all entries are of this sender or of one with a greater number
 abbrev pub AreFrom : ℕ → List Entry → Type 0
 AreFrom s [] = Unit {0}
 AreFrom s (e ∷ es) = (s ≤ e.sender) × AreFrom s es
@@ -33,7 +33,7 @@ kept : (m : ℕ) (e : Entry) (b : Bool) (xs ys : List Entry) → length (of_send
 kept m e true xs ys h = both (e.sender == m) e (of_sender m xs) (of_sender m ys) h
 kept m e false xs ys h = one (e.sender == m) e (of_sender m xs) (of_sender m ys) h
 
--- among them there are no more of any sender
+-- they have at most as many entries of any sender
 others_are_few : (s m : ℕ) (es : List Entry) → length (of_sender m (others s es)) ≤ length (of_sender m es)
 unfolding others
 others_are_few s m [] = omega arith
@@ -61,7 +61,7 @@ split : (s : ℕ) (es : List Entry) → length (of_sender s es) + length (others
 unfolding others
 split s es = length-filter_both (λ e. e.sender == s) (λ e. not (e.sender == s)) (λ e. refl) es
 
--- no more than all senders have accepted, where of each there are no more than it has
+-- there are at most as many entries as all senders have accepted, where this holds for each sender
 pub all_counted : (s : ℕ) (es : List Entry) (reports : List SenderReport) → ((k : ℕ) (r : SenderReport) → k < length reports → length (of_sender (s + k) es) ≤ (get_or reports k r).accepted)
     → AreOf (s + length reports) es → AreFrom s es → length es ≤ sum_by (λ r. r.accepted) reports
 all_counted s [] [] few known from = omega arith

@@ -1,4 +1,4 @@
--- The commands of a text that broke off begin those of the text.
+-- The commands of a text that broke off are a prefix of the commands of the text.
 use Rattle.std.proofs.Common.{◌≡◌, ◌≤◌, ◌⊎◌, inl, inr, ℕ, ◌+◌, List, [], ◌∷◌, ◌++◌, length, take, refl, sym, ap, ◌∙◌, subst, arith, append_assoc, append-nil, length-append, Bool, Option}
 use Rattle.std.proofs.lemmas.List.{take_at}
 use Rattle.cmd_types.specs.Spelling.{Timed}
@@ -56,11 +56,11 @@ begins_commands xs given b = (commands b.0, ap commands b.1 ∙ commands-append 
 begins_refusals : (xs given : List Item) → BeginsWith xs given → BeginsWith (refusals xs) (refusals given)
 begins_refusals xs given b = (refusals b.0, ap refusals b.1 ∙ refusals-append given b.0)
 
--- what begins a beginning begins the whole
+-- a prefix of a prefix is a prefix of the whole
 pub begins_twice : {A : Type 0} (xs ys zs : List A) → BeginsWith xs ys → BeginsWith ys zs → BeginsWith xs zs
 begins_twice xs ys zs a b = (b.0 ++ a.0, a.1 ∙ ap (λ l. l ++ a.0) b.1 ∙ append_assoc zs b.0 a.0)
 
--- what was taken of a text comes first among its items
+-- the items that were taken of a text are a prefix of its items
 given_first : (remaining : Option (List ℕ)) (fails fills : Bool) (piece reads : ℕ) (text : List ℕ) (how : Ending) (given : List Item) → AreGiven remaining fails fills piece reads text how given → AreFirst remaining fails reads text given
 given_first remaining fails fills piece reads text ending.Whole given are = inr (inl (are.1, ([], sym are.0 ∙ sym (append-nil given))))
 given_first remaining fails fills piece reads text ending.ReadFailed given are = inr (inr (inl are.1, ([], sym are.0 ∙ sym (append-nil given))))
@@ -68,7 +68,7 @@ given_first remaining fails fills piece reads text ending.TooManyReads given are
 given_first remaining fails fills piece reads text ending.Memory given are = are
 given_first remaining fails fills piece reads text ending.QueueRefused given are = are
 
--- the commands that were given are the first of the text
+-- the commands that were passed on are a prefix of those of the text
 pub first_commands : (remaining : Option (List ℕ)) (fails fills : Bool) (piece reads : ℕ) (text : List ℕ) (how : Ending) (given : List Item) → AreGiven remaining fails fills piece reads text how given → BeginsWith (commands (items text)) (commands given)
 first_commands remaining fails fills piece reads text how given are =
     elim (given_first remaining fails fills piece reads text how given are) [
@@ -77,7 +77,7 @@ first_commands remaining fails fills piece reads text how given are =
       | inr (inr b) ↦ begins_twice (commands (items text)) (commands (items_cut text)) (commands given) (cut_begins text) (begins_commands (items_cut text) given b.1)
     ]
 
--- the command of a last line without its line feed only where all was delivered
+-- the command of an unfinished last line was passed on only where all bytes were delivered
 pub unfinished_last : (remaining : Option (List ℕ)) (fails fills : Bool) (piece reads : ℕ) (text : List ℕ) (how : Ending) (given : List Item) → AreGiven remaining fails fills piece reads text how given → IsAll remaining text ⊎ BeginsWith (commands (items_so_far text)) (commands given)
 unfinished_last remaining fails fills piece reads text how given are =
     elim (given_first remaining fails fills piece reads text how given are) [
@@ -86,7 +86,7 @@ unfinished_last remaining fails fills piece reads text how given are =
       | inr (inr b) ↦ inr (subst (λ (cs : List Timed). BeginsWith cs (commands given)) (cut_so_far text) (begins_commands (items_cut text) given b.1))
     ]
 
--- and the refusals
+-- the refused lines that were passed on are a prefix of those of the text
 pub first_refusals : (remaining : Option (List ℕ)) (fails fills : Bool) (piece reads : ℕ) (text : List ℕ) (how : Ending) (given : List Item) → AreGiven remaining fails fills piece reads text how given → BeginsWith (refusals (items text)) (refusals given) ⊎ (MayBreakOff fails reads text × BeginsWith (refusals (items_cut text)) (refusals given))
 first_refusals remaining fails fills piece reads text how given are = elim (given_first remaining fails fills piece reads text how given are) [
   | inl b ↦ inl (begins_refusals (items text) given (begins_twice (items text) (items_so_far text) given (so_far_first text) b))
@@ -94,6 +94,6 @@ first_refusals remaining fails fills piece reads text how given are = elim (give
   | inr (inr b) ↦ inr (b.0, begins_refusals (items_cut text) given b.1)
 ]
 
--- so many first elements
+-- a prefix is the first elements, as many as it has
 pub take_begins : {A : Type 0} (xs ys : List A) (n : ℕ) → BeginsWith xs ys → n ≡ length ys → (n ≤ length xs) × (take n xs ≡ ys)
 take_begins xs ys n b is = (omega (arith, ap length b.1, length-append ys b.0), ap (take n) b.1 ∙ take_at ys b.0 n (sym is))

@@ -1,4 +1,4 @@
--- What a sender passes on whose feed makes its commands.
+-- The items that a sender whose feed makes its commands passes on.
 use Rattle.std.proofs.Common.{◌≡◌, inl, inr, ℕ, ◌+◌, ◌*◌, ◌/◌, ◌<◌, ◌≤◌, Bool, List, [], ◌∷◌, ◌++◌, length, sym, ap, refl, subst, append_assoc, arith, length-append, Option}
 use Rattle.std.specs.Io.KnownBytes.{Consumes}
 use Rattle.std.proofs.KnownBytes.{Consumes-nil, Consumes-trans}
@@ -32,7 +32,7 @@ nothing_known Open = refl
 nothing_known Finished = refl
 nothing_known CutOff = refl
 
--- where fewer were made than fit into so many bytes, one more fits
+-- where fewer commands were made than fit into these bytes, one more fits
 fits_one : (many bytes : ℕ) → many < bytes / LONGEST_MADE → (many + 1) * LONGEST_MADE ≤ bytes
 fits_one many bytes low = omega arith
 

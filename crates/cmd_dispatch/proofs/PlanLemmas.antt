@@ -1,4 +1,4 @@
--- What is sent is of the plan of the run.
+-- The commands that are sent are of the plan of the run.
 use Rattle.std.proofs.Common.{◌≡◌, ◌==◌, ◌<◌, ℕ, zero, suc, ◌+◌, ◌≤◌, Bool, List, [], ◌∷◌, ◌++◌, length, map, slice_index_or, Option, Some, None, refl, sym, ap, ◌∙◌, subst, arith, append_assoc, append-nil}
 use Rattle.std.specs.Prelude.{IfSome}
 use Rattle.std.specs.Io.KnownBytes.{Consumes}
@@ -30,9 +30,9 @@ use Rattle.cmd_dispatch.proofs.Grown.{commands-append}
 use Rattle.cmd_dispatch.proofs.CutLemmas.{cut_so_far}
 use Rattle.cmd_dispatch.proofs.ToldLemmas.{first_given}
 
--- ---- beginnings
+-- ---- prefixes
 
--- what begins a beginning of all that may be sent begins it
+-- a prefix of the next commands of the plan is next in the plan too
 pub begun_start : (planned : Option (List Timed)) (cs ds : List Timed) → ComeFirst planned (cs ++ ds) → ComeFirst planned cs
 begun_start None cs ds begun = tt
 begun_start (Some all) cs ds begun = (ds ++ begun.0, begun.1 ∙ append_assoc cs ds begun.0)
@@ -51,7 +51,7 @@ commands_of-append s xs ys =
     let own : Entry → Bool = λ (e : Entry). e.sender == s in
     ap stamped_of (filter-append own xs ys) ∙ map-append (λ (e : Entry). e.stamped) _ _
 
--- a beginning of entries of the plan is of the plan
+-- a prefix of entries of the plan is of the plan
 pub plan_start : (plan : Plan) (xs ys : List Entry) → AreOfPlan plan (xs ++ ys) → AreOfPlan plan xs
 plan_start plan xs ys are s = begun_start (planned_of plan s) (commands_of s xs) (commands_of s ys) (subst (ComeFirst (planned_of plan s)) (commands_of-append s xs ys) (are s))
 
@@ -69,7 +69,7 @@ of_more n (x ∷ entries) e are low = (are.0, of_more n entries e are.1 low)
 
 -- ---- the plan of a run
 
--- one entry more of the feeds
+-- one more entry of the feeds
 pub fed_more : {F : Type 0} (remaining : F → Option (List ℕ)) (feeds : List F) (taken : List Entry) (e : Entry) → e.sender < length feeds → AreOf (length feeds) taken → AreOfPlan (plan_of remaining feeds) (taken ++ e ∷ []) → AreOfFeeds remaining feeds (taken ++ e ∷ [])
 fed_more remaining feeds taken e low are sent = (subst (λ (n : ℕ). AreOf n (taken ++ e ∷ [])) (sym (length-map feeds (λ feed. spelled (remaining feed)))) (of_more (length feeds) taken e are low), sent)
 
@@ -78,7 +78,7 @@ planned_at f [] k d low = absurd (omega arith)
 planned_at f (x ∷ feeds) zero d low = refl
 planned_at f (x ∷ feeds) (suc k) d low = planned_at f feeds k d (omega arith)
 
--- what is known of a sender is what its feed spells
+-- the known commands of a sender are those that its feed spells
 planned_as : (planned spells : Option (List Timed)) → planned ≡ spells → IfSome planned (λ all. spells ≡ Some all)
 planned_as None spells is = tt
 planned_as (Some all) spells is = sym is
@@ -103,7 +103,7 @@ gathered_next side gathered is =
     let row = all_sent (entries_after side.sender (length side.list) gathered) in
     subst (ComeFirst (planned_of side.queue.plan side.sender)) (commands_in-append side.list row ∙ ap (λ l. commands_in side.list ++ l) (sent_commands side.sender (length side.list) gathered)) is
 
--- also without the last of them
+-- the gathered commands without the last ones come next too
 pub gathered_first : (side : Sent) (first more : List Timed) → IsOfPlan (with_commands side (first ++ more)) → IsOfPlan (with_commands side first)
 gathered_first side first more is =
     let row = all_sent (entries_after side.sender (length side.list) first) in
@@ -111,7 +111,7 @@ gathered_first side first more is =
     subst (ComeFirst planned) (sym (commands_in-append side.list row ∙ ap (λ l. commands_in side.list ++ l) (sent_commands side.sender (length side.list) first)))
     (begun_start planned (commands_in side.list ++ first) more (subst (ComeFirst planned) (sym (append_assoc (commands_in side.list) first more)) (gathered_next side (first ++ more) is)))
 
--- what was passed on is of the plan where its items are
+-- the commands that were passed on are of the plan where the items are
 pub passed_in_plan : (given : List Item) (side : Sent) (refused : List (ℕ × LineFault) → Type 0) → HasPassedOn given side refused → HasInPlan side given → IsOfPlan side
 passed_in_plan given side refused passed in_plan =
     subst (ComeFirst (planned_of side.queue.plan side.sender)) (sym (ap commands_in passed.sent ∙ sent_commands side.sender 0 (commands given))) in_plan
@@ -120,11 +120,11 @@ in_plan_first : (side : Sent) (all given : List Item) → BeginsWith all given �
 in_plan_first side all given first in_plan =
     begun_first (planned_of side.queue.plan side.sender) (commands all) (commands given) (commands first.0, ap commands first.1 ∙ commands-append given first.0) in_plan
 
--- and where they come first among such items
+-- the same where the items are a prefix of such items
 pub begun_in_plan : (all : List Item) (side : Sent) (refused : List (ℕ × LineFault) → Type 0) → HasBegun all side refused → HasInPlan side all → IsOfPlan side
 begun_in_plan all side refused begun in_plan = passed_in_plan begun.given side refused begun.passed (in_plan_first side all begun.given begun.first in_plan)
 
--- what is passed on of a text keeps to the plan
+-- the items that are passed on of a text are of the plan
 pub kept_in_plan : (lines : Waiting) (side : Sent) (refused : List (ℕ × LineFault) → Type 0) → KeepsPlan lines side refused → IsOfPlan side
 kept_in_plan lines side refused keeps =
     let giving = keeps.1 in
@@ -156,7 +156,7 @@ planned_still remaining side side' queue sender planned = subst (λ (y : QueueId
 pub command_next : (side : Sent) (place : ℕ) (t : Timed) → IsOfPlan (with_command side place t) → ComeFirst (planned_of side.queue.plan side.sender) (commands_in side.list ++ t ∷ [])
 command_next side place t is = subst (ComeFirst (planned_of side.queue.plan side.sender)) (commands_in-append side.list (Command (record { sender = side.sender; place = place; stamped = t }) ∷ [])) is
 
--- ---- what is gathered
+-- ---- gathered commands
 
 -- a sender that has sent nothing
 pub nothing_sent : (side : Sent) → side.list ≡ [] → IsOfPlan side
@@ -168,9 +168,9 @@ pub still_within : (lines : Waiting) (side : Sent) (old new : List Timed) (refus
 still_within lines side old new refused same room covered few keeps =
     subst (λ (cs : List Timed). (length cs ≤ MOST_TOGETHER) × (length (with_commands side cs).list ≤ MOST_FED) × IsOfPlan (with_commands side cs)) (sym same) (omega (arith, room), omega (arith, covered, few), kept_in_plan lines (with_commands side old) refused keeps)
 
--- ---- what a feed spells
+-- ---- the commands that a feed spells
 
--- what its feed spells first is first in the plan
+-- a prefix of the commands that a sender's feed spells is next in the sender's plan
 spelled_in_plan : (planned spells : Option (List Timed)) (cs : List Timed) → IfSome planned (λ all. spells ≡ Some all) → ComeFirst spells cs → ComeFirst planned cs
 spelled_in_plan None spells cs is first = tt
 spelled_in_plan (Some all) spells cs is first = subst (λ o. ComeFirst o cs) is first
@@ -191,7 +191,7 @@ module _ (grows : TheGrowthLaw) where
   spelled_whole None text all = tt
   spelled_whole (Some bytes) text all = ([], ap (λ (t : List ℕ). commands (items t)) (sym all) ∙ sym (append-nil (commands (items text))))
 
-  -- what is known of a text that the feed delivered comes first in what it spells
+  -- the commands that a delivered text determines so far are a prefix of those that the feed spells
   pub so_far_in_plan : (remaining after : Option (List ℕ)) (text : List ℕ) (side : Sent) → IsPlannedBy remaining side → Consumes remaining after text → HasInPlan side (items_so_far text)
   so_far_in_plan remaining after text side planned consumed = spelled_in_plan (planned_of side.queue.plan side.sender) (spelled remaining) (commands (items_so_far text)) planned (spelled_so_far remaining after text consumed)
 

@@ -1,4 +1,4 @@
--- What the joins and the settling say of a run, whatever its log.
+-- The facts on a run that follow from joining the threads and settling the queue, whatever the log.
 use Rattle.std.proofs.Common.{◌≡◌, ◌<◌, ◌≤◌, ◌+◌, ℕ, zero, suc, Bool, true, false, List, [], ◌∷◌, length, get_or, refl, sym, ap, ◌∙◌, subst, arith, Option, None, Some}
 use Rattle.std.specs.List.{All, sum_by}
 use Rattle.std.proofs.lemmas.List.{length-map, get_or-map}
@@ -27,7 +27,7 @@ use Rattle.cmd_options.specs.declared.options.RunOptions.{RunOptions}
 use Rattle.cmd_dispatch.proofs.CauseLemmas.{lost_first, no_fault, none_at_first, none_before, free_if_stopped, spawn_some, may_fail_known, logged_begins, logged_all, of_failure, of_stopped}
 use Rattle.cmd_dispatch.proofs.SenderLemmas.{SentFrom, one_closed, one_told, not_refused, one_begun, few_taken, all_counted_of, of_one}
 
--- a list has an element at each of its places
+-- a list has an element at each of its indices
 there : {A : Type 0} (l : List A) (k : ℕ) → k < length l → A
 there [] k low = absurd (omega arith)
 there (x ∷ xs) zero low = x
@@ -43,7 +43,7 @@ module _ {F P : Type 0} (remaining : F → Option (List ℕ)) (fails fills : F �
   many : length fed ≡ length readers
   many = length-map readers (read_as remaining fails fills options)
 
-  -- what each thread has sent
+  -- the messages that each thread has sent
   kept_at : (k : ℕ) (s : Source) (e : Ended) (r : SenderReport) → k < length handles → SentFrom (get_or fed k s) before.queue k (get_or ends k e) (get_or reports k r) (refused k)
   kept_at k s e r low =
       let h = there handles k low in
@@ -71,7 +71,7 @@ module _ {F P : Type 0} (remaining : F → Option (List ℕ)) (fails fills : F �
     abbrev es : List Entry
     es = entries after.list
 
-    -- what was passed to the log
+    -- the entries that were passed to the log
     abbrev noted : List Entry
     noted = logged first es
 
@@ -106,14 +106,14 @@ module _ {F P : Type 0} (remaining : F → Option (List ℕ)) (fails fills : F �
               one_told (get_or fed k s) before.queue k (get_or ends k e) (get_or reports k r) (refused k) after (kept_at k s e r low') (settled k e low'') (taken.closed free.0 k (omega arith)) (free.1 k r (omega arith));
         })
 
-    -- where nothing failed but a sender that stopped, all was passed to the log
+    -- where the only fault is a sender that stopped, all entries were passed to the log
     all_logged : (c : RunCause) (j : ℕ) → IsCause fault reports (Some c) → c ≡ cause.SenderStopped j → (fault ≡ None) × (noted ≡ es)
     all_logged c j is stopped =
         let taking = taken.taking in
         let free = free_if_stopped all count j first fault reports spawned taking.stands (subst (λ (x : RunCause). IsCause fault reports (Some x)) stopped is) in
         (free, logged_all first es (none_before first fault taking.stands free))
 
-    -- what stands of each sender that was started
+    -- `IsBegunBy` holds for each sender that was started
     begun_are : (c : RunCause) → IsCause fault reports (Some c) → (k : ℕ) (s : Source) (r : SenderReport) → k < length reports → IsBegunBy (get_or fed k s) c k noted (get_or reports k r) (refused k)
     begun_are c is k s r low =
         let reports_are = joined.reports_are in
@@ -124,7 +124,7 @@ module _ {F P : Type 0} (remaining : F → Option (List ℕ)) (fails fills : F �
         one_begun (get_or fed k s) before.queue k (get_or ends k e) (get_or reports k r) (refused k) after (kept_at k s e r low') (settled k e low'') noted c (logged_begins first es)
         (λ j stopped. let free = all_logged c j is stopped in (free.1, taken.closed free.0 k (omega arith)))
 
-    -- what was taken of a run with a fault
+    -- the messages that were taken in a run with a fault
     part_settled : (list : Settlement) → list.list ≡ after.list → list.senders ≡ after.senders → (c : RunCause) → IsCause fault reports (Some c) → IsPartSettled (length fed) c noted reports list
     part_settled list list_is list_of c is =
         let taking = taken.taking in
@@ -154,7 +154,7 @@ module _ {F P : Type 0} (remaining : F → Option (List ℕ)) (fails fills : F �
               taken.lost first_is.0 first_is.1 (λ k low. closed k (omega (arith, many)));
         })
 
-    -- no more was taken than the senders have accepted
+    -- at most as many entries were taken as the senders have accepted
     few_are_taken : length reports ≡ length fed → length es ≤ sum_by (λ (r : SenderReport). r.accepted) reports
     few_are_taken every =
         let taking = taken.taking in
@@ -208,7 +208,7 @@ module _ {F P : Type 0} (remaining : F → Option (List ℕ)) (fails fills : F �
             subst (λ (l : List Entry). (AreOf (length reports) l) × IsEndedBy (length fed) c l reports) (sym nothing)
             (tt, subst (λ (d : RunCause). IsEndedBy (length fed) d [] reports) (sym c_is) (refl, n, omega (arith, many)))
 
-    -- what the log knows of, by why the run has no report
+    -- the fault of which the log knows, by the cause for which the run has no report
     log_knows : (c : Option RunCause) → IsCause fault reports c → known_fault first fault ≡ fault_known c
     log_knows c is = by first fault spawned taken.taking.stands c is
       where

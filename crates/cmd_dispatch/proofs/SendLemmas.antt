@@ -1,4 +1,4 @@
--- What a sender passes on, item by item.
+-- The items that a sender passes on, one by one.
 use Rattle.std.proofs.Common.{◌≡◌, ◌⊎◌, inl, inr, ⊎_elim, ℕ, zero, suc, suc-mul, mul-le-mul_right, ◌+◌, ◌*◌, ◌<◌, ◌≤◌, Bool, true, false, true≢false, take, drop, length-take, length-drop, List, [], ◌∷◌, ◌++◌, length, sym, ap, ◌∙◌, refl, subst, append-nil, append_assoc, arith, length-append, Option, Some, None}
 use Rattle.std.specs.Io.KnownBytes.{Consumes, Keeps, IsAtEnd}
 use Rattle.std.proofs.KnownBytes.{Consumes-nil, Consumes-trans, Consumes-kept}
@@ -56,14 +56,14 @@ command_passed g t place old new refused was at is =
       told = subst refused (sym (refusals-append g (item.Command t ∷ []) ∙ append-nil (refusals g))) was.told;
     })
 
--- ---- what is gathered
+-- ---- gathered commands
 
 pub length-ahead : (side : Sent) (gathered : List Timed) → length (with_commands side gathered).list ≡ length side.list + length gathered
 length-ahead side gathered =
     let row = all_sent (entries_after side.sender (length side.list) gathered) in
     length-append side.list row ∙ ap (λ n. length side.list + n) (sent_after side.sender (length side.list) gathered)
 
--- one more is gathered
+-- one more command is gathered
 pub gathered_more : (side : Sent) (gathered : List Timed) (t : Timed) → with_commands side (gathered ++ t ∷ []) ≡ with_command (with_commands side gathered) (length (with_commands side gathered).list + 1) t
 gathered_more side gathered t =
     let n = length side.list in
@@ -74,23 +74,23 @@ gathered_more side gathered t =
     ap all_sent (entries_after-push side.sender n m gathered t (sym (length-ahead side gathered))) ∙ all_sent-append row (e ∷ []) in
     λ i. record { queue = side.queue; sender = side.sender; list = (ap (λ l. side.list ++ l) more ∙ sym (append_assoc side.list (all_sent row) (Command e ∷ []))) i }
 
--- what was gathered is sent
+-- the gathered commands are sent
 pub gathered_sent : (side side' : Sent) (gathered gathered' : List Timed) → side' ≡ with_commands side gathered → gathered' ≡ [] → with_commands side' gathered' ≡ with_commands side gathered
 gathered_sent side side' gathered gathered' is none =
     ap (with_commands side') none ∙ (λ i. record { queue = side'.queue; sender = side'.sender; list = append-nil side'.list i }) ∙ is
 
--- the last is gathered again once those before it were sent
+-- the last command is gathered again once the commands before it were sent
 pub waited : (side : Sent) (first : List Timed) (t : Timed) → with_commands (with_commands side first) (t ∷ []) ≡ with_commands side (first ++ t ∷ [])
 waited side first t =
     let s = with_commands side first in
     let none : with_commands s [] ≡ s = λ i. record { queue = s.queue; sender = s.sender; list = append-nil s.list i } in
     gathered_more s [] t ∙ ap (λ (y : Sent). with_command y (length y.list + 1) t) none ∙ sym (gathered_more side first t)
 
--- what was passed on stays so where what was taken stays taken
+-- items that were passed on stay so, where refused lines that were taken stay taken
 pub still_passed : (given : List Item) (side side' : Sent) (refused refused' : List (ℕ × LineFault) → Type 0) → side' ≡ side → HasKept refused refused' → HasPassedOn given side refused → HasPassedOn given side' refused'
 still_passed given side side' refused refused' same kept was = subst (λ (y : Sent). HasPassedOn given y refused') (sym same) (record { sent = was.sent; told = kept (refusals given) was.told })
 
--- where nothing is gathered any more, all that stood ahead was sent
+-- where no command is gathered any more, all gathered commands were sent
 pub sent_ahead : {P : Type 0} (has_taken : P → List (ℕ × LineFault) → Type 0) (old new : Sending P) → IsSame has_taken old new → new.gathered.items ≡ [] → new.side ≡ ahead old
 sent_ahead has_taken old new same none =
     let all : with_commands new.side [] ≡ new.side = λ i. record { queue = new.side.queue; sender = new.side.sender; list = append-nil new.side.list i } in
@@ -99,7 +99,7 @@ sent_ahead has_taken old new same none =
 pub nothing_ahead : (side : Sent) (gathered : List Timed) → side.list ≡ [] → gathered ≡ [] → (with_commands side gathered).list ≡ []
 nothing_ahead side gathered empty none = ap (λ (g : List Timed). (with_commands side g).list) none ∙ append-nil side.list ∙ empty
 
--- the same of all that was read
+-- the same for the whole text that was read
 pub still_reading : (f : List ℕ) (lines lines' : Waiting) (side side' : Sent) (refused refused' : List (ℕ × LineFault) → Type 0) → side' ≡ side → lines' ≡ lines → HasKept refused refused' → IsReading f lines side refused → IsReading f lines' side' refused'
 still_reading f lines lines' side side' refused refused' same same_lines kept at =
     record { stands = subst (λ (w : Waiting). Stands w f (items_so_far f)) (sym same_lines) at.stands; passed = still_passed (items_so_far f) side side' refused refused' same kept at.passed }
@@ -122,7 +122,7 @@ refusal_passed g n f side old new was more =
 
 -- ---- reading
 
--- all that is known was passed on
+-- all items that the text determines so far were passed on
 pub all_given : (f : List ℕ) (given : List Item) (p p' : Phase) (lines lines' : Waiting) (side : Sent) (refused : List (ℕ × LineFault) → Type 0) → p' ≡ p → lines' ≡ lines → known p' f ≡ given → Stands lines f given → HasPassedOn given side refused
     → Stands lines' f (known p f) × HasPassedOn (known p f) side refused
 all_given f given p p' lines lines' side refused same kept all stands passed =
@@ -144,7 +144,7 @@ reading_on f p lines side refused is h =
 pub begun_reading : (f piece : List ℕ) (lines : Waiting) (side : Sent) (refused : List (ℕ × LineFault) → Type 0) → lines.phase ≡ Open → IsReading f lines side refused → HasBegun (items_so_far (f ++ piece)) side refused
 begun_reading f piece lines side refused opened at = record { given = items_so_far f; first = first_more lines f piece (items_so_far f) opened at.stands; passed = at.passed }
 
--- of a text that may go on
+-- a prefix of the items of a text that may continue
 part_so_far : (before after : Option (List ℕ)) (fails : Bool) (piece reads : ℕ) (f : List ℕ) (side : Sent) (refused : List (ℕ × LineFault) → Type 0) → Consumes before after f → length f ≤ reads * piece → HasBegun (items_so_far f) side refused → IsPartRead before after fails piece reads side refused
 part_so_far before after fails piece reads f side refused c bound begun = record { text = f; consumed = c; bound = bound; given = begun.given; first = inl begun.first; passed = begun.passed }
 
@@ -174,11 +174,11 @@ written_back len new old same is =
 pub taken_length : (n : ℕ) (l : List ℕ) → n ≤ length l → length (take n l) ≡ n
 taken_length n l few = omega (arith, length-take n l)
 
--- where all was delivered, nothing more comes
+-- where all bytes were delivered, no more bytes come
 nothing_more : (xs ys zs text more : List ℕ) → xs ≡ text ++ ys → ys ≡ more ++ zs → text ≡ xs → length more ≡ 0
 nothing_more xs ys zs text more c d all = omega (arith, ap length c, length-append text ys, ap length d, length-append more zs, ap length all)
 
--- of a feed that fills each piece one piece more was filled, or all was delivered
+-- a feed that fills each piece filled one more piece, or all its bytes were delivered
 filled_more : (before now next : Option (List ℕ)) (piece n : ℕ) (text more : List ℕ) → Consumes before now text → Consumes now next more → 0 < length more → FillsPieces before piece n text → (length more ≡ piece) ⊎ IsAtEnd next
     → FillsPieces before piece (n + 1) (text ++ more)
 filled_more before now next piece n text more c d some (inl was) (inl read) = inl (omega (arith, suc-mul n piece, length-append text more))
@@ -203,7 +203,7 @@ feeding_more before now next fills size n piece lines lines' side side' refused 
   reading = on was.text was.reading;
 }
 
--- whatever became of what was read, the first items were passed on
+-- whatever happened to the bytes that were read, a prefix of the items was passed on
 pub begun_feeding : (before now next : Option (List ℕ)) (fails fills : Bool) (size reads n : ℕ) (piece : List ℕ) (lines : Waiting) (side side' : Sent) (refused refused' : List (ℕ × LineFault) → Type 0) → IsFeeding before now fills size n lines side refused → Consumes now next piece
     → n < reads → length piece ≤ size → ((f : List ℕ) → IsReading f lines side refused → HasBegun (items_so_far (f ++ piece)) side' refused') → IsPartRead before next fails size reads side' refused'
 begun_feeding before now next fails fills size reads n piece lines side side' refused refused' was read low few on =
@@ -254,7 +254,7 @@ pub read_told : (before after : Option (List ℕ)) (fails fills : Bool) (piece r
     → ((f : List ℕ) → IsReading f lines side refused → HasPassedOn (items_by how f) side' refused') → HasRead before after fails fills piece reads how side' refused'
 read_told before after fails fills piece reads how lines side side' refused refused' read on = record { text = read.text; consumed = read.consumed; bound = read.bound; ended = read.ended; passed = on read.text read.reading }
 
--- or the first of them
+-- a prefix of its items was passed on
 pub read_begun : (before after : Option (List ℕ)) (fails fills : Bool) (piece reads : ℕ) (how : Ending) (lines : Waiting) (side side' : Sent) (refused refused' : List (ℕ × LineFault) → Type 0) → HasReadText before after fails fills piece reads how lines side refused
     → ((f : List ℕ) → IsReading f lines side refused → HasBegun (items_by how f) side' refused') → IsPartRead before after fails piece reads side' refused'
 read_begun before after fails fills piece reads how lines side side' refused refused' read on =
@@ -263,7 +263,7 @@ read_begun before after fails fills piece reads how lines side side' refused ref
 
 -- ---- the end of a sender
 
--- the first of what was sent are the entries of the first commands
+-- the first messages that were sent are the entries of the first commands
 take_after : (sender n k : ℕ) (cs : List Timed) → take k (entries_after sender n cs) ≡ entries_after sender n (take k cs)
 take_after sender n zero cs = refl
 take_after sender n (suc k) [] = refl
@@ -278,12 +278,12 @@ first_sent sender cs put begins =
       sym front ∙ take-map Command k (entries_of sender cs) ∙ ap all_sent (take_after sender 0 k cs),
     )
 
--- an end of what was left before is one of what was left then
+-- an end remains one where refused lines that were taken stay taken
 end_kept : (side : Sent) (refused refused' : List (ℕ × LineFault) → Type 0) (how : Ending) (put sent : List Taken) (e : Ended) (r : SenderReport) (now : List (ℕ × LineFault) → Type 0) → HasKept refused refused' → IsEndOf side refused' how put sent e r now → IsEndOf side refused how put sent e r now
 end_kept side refused refused' how put sent e r now kept is =
     record { queue_is = is.queue_is; sender_is = is.sender_is; sent_is = is.sent_is; ending_is = is.ending_is; accepted = is.accepted; kept = λ lines was. is.kept lines (kept lines was) }
 
--- a sender that left with what it had sent, and dropped what it had gathered
+-- a sender that left after the messages that it had sent, and dropped the gathered commands
 pub left_ahead : (side : Sent) (gathered : List Timed) (refused : List (ℕ × LineFault) → Type 0) (e : Ended) (r : SenderReport) (now : List (ℕ × LineFault) → Type 0) → HasLeft side refused e r now → HasLeft (with_commands side gathered) refused e r now
 left_ahead side gathered refused e r now left =
     let row = all_sent (entries_after side.sender (length side.list) gathered) in

@@ -1,4 +1,4 @@
--- What one sender has sent, and what stands of it after a run.
+-- The messages that one sender has sent, and the facts on the sender after a run.
 use Rattle.std.proofs.Common.{◌≡◌, ◌≢◌, ◌==◌, ◌≤◌, ◌⊎◌, inl, inr, ℕ, true, false, true≢false, List, [], ◌∷◌, ◌++◌, length, length-append, refl, sym, ap, ◌∙◌, subst, arith, append-nil, append_assoc, take, Option}
 use Rattle.std.proofs.lemmas.List.{length-map}
 use Rattle.cmd_types.specs.declared.entry.Entry.{Entry}
@@ -30,7 +30,7 @@ use Rattle.cmd_dispatch.proofs.DispatchLemmas.{of_sender-entries}
 use Rattle.cmd_dispatch.proofs.SendLemmas.{length-sent}
 use Rattle.cmd_dispatch.proofs.ToldLemmas.{delivered}
 
--- what the thread of this feed has sent
+-- the messages that the thread of this feed has sent
 abbrev pub SentFrom : Source → QueueId → (k : ℕ) → Ended → SenderReport → (List (ℕ × LineFault) → Type 0) → Type 0
 SentFrom source queue k e r refused = (after : Option (List ℕ)) × HasSent source.remaining after source.fails source.fills source.piece source.reads queue k e r refused
 
@@ -38,7 +38,7 @@ entries_sent : (es : List Entry) (l : List Taken) → entries (all_sent es ++ l)
 entries_sent [] l = refl
 entries_sent (e ∷ es) l = ap (λ (r : List Entry). e ∷ r) (entries_sent es l)
 
--- the entries of what a sender has sent in all
+-- the entries of all messages that a sender has sent
 entries_in_all : (how : Ending) (s : ℕ) (es : List Entry) → entries (in_all how s (all_sent es)) ≡ es
 entries_in_all ending.Whole s es = entries_sent es (Closed s (length (all_sent es)) ∷ []) ∙ append-nil es
 entries_in_all ending.ReadFailed s es = entries_sent es (Closed s (length (all_sent es)) ∷ []) ∙ append-nil es
@@ -46,7 +46,7 @@ entries_in_all ending.TooManyReads s es = entries_sent es (Closed s (length (all
 entries_in_all ending.Memory s es = entries_sent es (Closed s (length (all_sent es)) ∷ []) ∙ append-nil es
 entries_in_all ending.QueueRefused s es = ap entries (sym (append-nil (all_sent es))) ∙ entries_sent es [] ∙ append-nil es
 
--- with a complete ending all items of the text were given
+-- with a complete ending all items of the text were passed on
 given_complete : (source : Source) (text : List ℕ) (how : Ending) (given : List Item) → is_complete how ≡ true → AreGiven source.remaining source.fails source.fills source.piece source.reads text how given
     → (given ≡ items_by how text) × IsEnded source.remaining source.fails source.fills source.piece source.reads text how
 given_complete source text ending.Whole given whole are = are
@@ -55,7 +55,7 @@ given_complete source text ending.TooManyReads given whole are = are
 given_complete source text ending.Memory given whole are = absurd (true≢false (sym whole))
 given_complete source text ending.QueueRefused given whole are = absurd (true≢false (sym whole))
 
--- and all their commands were put into the queue, else the first
+-- with a complete ending all commands of these items were put into the queue
 put_complete : (how : Ending) (cs put : List Timed) → is_complete how ≡ true → ArePut how cs put → put ≡ cs
 put_complete ending.Whole cs put whole are = are
 put_complete ending.ReadFailed cs put whole are = are
@@ -70,7 +70,7 @@ put_first ending.TooManyReads cs put are = ([], sym are ∙ sym (append-nil put)
 put_first ending.Memory cs put are = ([], sym are ∙ sym (append-nil put))
 put_first ending.QueueRefused cs put are = are
 
--- what a sender that read its text to its end has sent in all ends in its close mark
+-- the last message of a sender that read its text to its end is its close mark
 marked : (how : Ending) (s : ℕ) (sent : List Taken) → is_complete how ≡ true → in_all how s sent ≡ sent ++ Closed s (length sent) ∷ []
 marked ending.Whole s sent whole = refl
 marked ending.ReadFailed s sent whole = refl
@@ -82,7 +82,7 @@ no_mark : (es : List Entry) → has_mark (all_sent es) ≡ false
 no_mark [] = refl
 no_mark (e ∷ es) = no_mark es
 
--- and where it stopped nevertheless it wanted memory
+-- where the ending is not complete, and the queue did not refuse, memory ran out
 pub stopped_for_memory : (how : Ending) → is_complete how ≡ false → how ≢ ending.QueueRefused → how ≡ ending.Memory
 stopped_for_memory ending.Whole stopped other = absurd (true≢false stopped)
 stopped_for_memory ending.ReadFailed stopped other = absurd (true≢false stopped)
@@ -90,7 +90,7 @@ stopped_for_memory ending.TooManyReads stopped other = absurd (true≢false stop
 stopped_for_memory ending.Memory stopped other = refl
 stopped_for_memory ending.QueueRefused stopped other = absurd (other refl)
 
--- a journal of one sender is that sender's
+-- a journal of entries of one sender is that sender's list of entries
 pub of_one : (journal : List Entry) → AreOf 1 journal → of_sender 0 journal ≡ journal
 of_one [] are = refl
 of_one (e ∷ journal) are =
@@ -107,20 +107,21 @@ module _ (source : Source) (queue : QueueId) (k : ℕ) (e : Ended) (r : SenderRe
   abbrev es : List Entry
   es = entries d.list
 
-  -- what its mark makes known: all that it sent was taken, and stands in the journal
+  -- where its mark was taken, all messages that it sent were taken, and all its entries are in the list
   one_taken : is_closed k d.list ≡ true → (lists.of_sender k d.list ≡ e.list) × (of_sender k es ≡ entries_of k sent.put)
   one_taken closed =
       let all : lists.of_sender k d.list ≡ e.list = ap (λ s. lists.of_sender s d.list) (sym sent.sender_is) ∙ settled.whole (ap (λ s. is_closed s d.list) sent.sender_is ∙ closed) in
       (all, of_sender-entries k d.list ∙ ap entries (all ∙ sent.sent) ∙ entries_in_all r.ending k (entries_of k sent.put))
 
-  -- with a complete ending all items of its text were given, and all their commands put into the queue
+  -- with a complete ending all items of its text were passed on, and all their commands put into the queue
   items_given : is_complete r.ending ≡ true → (sent.given ≡ items_by r.ending sent.text) × IsEnded source.remaining source.fails source.fills source.piece source.reads sent.text r.ending
   items_given complete = given_complete source sent.text r.ending sent.given complete sent.items
 
   commands_put : is_complete r.ending ≡ true → sent.put ≡ commands (items_by r.ending sent.text)
   commands_put complete = put_complete r.ending (commands sent.given) sent.put complete sent.put_are ∙ ap commands (items_given complete).0
 
-  -- what was taken of a sender that read its text to its end: its entries in the journal, and its mark with their number
+  -- the messages taken of a sender that read its text to its end: its entries in the journal, and its mark with their
+  -- number
   pub one_closed : is_closed k d.list ≡ true → is_complete r.ending ≡ true → lists.of_sender k d.list ≡ all_sent (of_sender k es) ++ Closed k r.accepted ∷ []
   one_closed closed complete =
       let taken = one_taken closed in
@@ -145,11 +146,11 @@ module _ (source : Source) (queue : QueueId) (k : ℕ) (e : Ended) (r : SenderRe
       let put = entries_of k sent.put in
       true≢false (sym closed ∙ ap has_mark ((one_taken closed).0 ∙ sent.sent ∙ ap (λ (how : Ending). in_all how k (all_sent put)) was_refused) ∙ no_mark put)
 
-  -- what was put into the queue is what was sent in all, marks aside
+  -- the commands put into the queue are the messages sent in all, without the mark
   put_is : entries e.list ≡ entries_of k sent.put
   put_is = ap entries sent.sent ∙ entries_in_all r.ending k (entries_of k sent.put)
 
-  -- what was taken begins what was sent
+  -- the messages that were taken are a prefix of those that were sent
   begun_is : e.list ≡ lists.of_sender k d.list ++ settled.begins.0
   begun_is = settled.begins.1 ∙ ap (λ s. lists.of_sender s d.list ++ settled.begins.0) sent.sender_is
 
@@ -158,7 +159,7 @@ module _ (source : Source) (queue : QueueId) (k : ℕ) (e : Ended) (r : SenderRe
   so_far (inl all) = inl all
   so_far (inr begins) = inr (let lines = commands (items_so_far sent.text) in (take_begins lines sent.put r.accepted (begins_twice lines (commands sent.given) sent.put begins (put_first r.ending (commands sent.given) sent.put sent.put_are)) sent.accepted).0)
 
-  -- what stands of it after a fault
+  -- the facts on the sender after a fault
   pub one_begun : (journal : List Entry) (c : RunCause) → BeginsWith es journal → ((j : ℕ) → c ≡ cause.SenderStopped j → (journal ≡ es) × (is_closed k d.list ≡ true)) → IsBegunBy source c k journal r refused
   one_begun journal c more all =
       let cs = commands (items sent.text) in
@@ -182,7 +183,7 @@ module _ (source : Source) (queue : QueueId) (k : ℕ) (e : Ended) (r : SenderRe
         all_refused = λ complete. subst refused (ap refusals (items_given complete).0) sent.told;
       }
 
-  -- no more was taken of it than it has accepted
+  -- at most as many of its entries were taken as it has accepted
   pub few_taken : length (of_sender k es) ≤ r.accepted
   few_taken =
       let put = entries_of k sent.put in
@@ -193,6 +194,6 @@ module _ (source : Source) (queue : QueueId) (k : ℕ) (e : Ended) (r : SenderRe
       let same : length (of_sender k es) ≡ length (entries front) = ap length (of_sender-entries k d.list) in
       omega (arith, ap length parts, length-append (entries front) (entries rest))
 
-  -- where its mark was taken, as many
+  -- where its mark was taken, as many of its entries were taken as it has accepted
   pub all_counted_of : is_closed k d.list ≡ true → length (of_sender k es) ≡ r.accepted
   all_counted_of closed = ap length (one_taken closed).1 ∙ sym (length-map (entries_of k sent.put) Command) ∙ length-sent k sent.put ∙ sym sent.accepted

@@ -30,7 +30,7 @@ use Rattle.cmd_dispatch.specs.RunCalls.{RunCall}
 use Rattle.cmd_dispatch.specs.Runs.{HasEnded, IsEndedBy, fault_known}
 use Rattle.cmd_dispatch.specs.Follows.{HasFollowed, HasStopped, IsFollowedAs, ListNothing, attended_at, followed_outcome}
 
--- nothing stands behind whole entries, whatever the fault
+-- whatever the fault, nothing may follow the lines of whole entries
 part_as : (fault : Option RunCause) (part : List ℕ) → part ≡ [] → IsPart fault part
 part_as None part none = none
 part_as (Some cause.BadOptions) part none = none
@@ -46,7 +46,7 @@ pub no_room : (limit : ℕ) (inv : Configuration) (clock : Option ℕ) (before :
 no_room limit inv clock before taken e ledger waiting now full is = (let n = is.told.has_told.applied in omega (arith, full, length-append taken (e ∷ [])))
 
 module _ (limit : ℕ) (inv : Configuration) (clock : Option ℕ) (before : Option (List ℕ)) where
-  -- what stands where an entry met a fault: nothing more was printed
+  -- the contents of the log after a fault of an entry: nothing more was printed
   pub telling_failed : (c : RunCause) (taken : List Entry) (e : Entry) (ledger ledger' : Ledger) (waiting waiting' : List ℕ) (now : Option (List ℕ)) → IsOfLog c → IsTelling limit inv clock before None taken ledger waiting now → IsWithin limit (Some c) (taken ++ e ∷ []) → IsTelling limit inv clock before (Some c) (taken ++ e ∷ []) ledger' waiting' now
   telling_failed c taken e ledger ledger' waiting waiting' now of_log is within =
       let more = told_begins inv clock (initial inv) taken (e ∷ []) in
@@ -79,7 +79,7 @@ module _ (limit : ℕ) (inv : Configuration) (clock : Option ℕ) (before : Opti
     within = (let n = is.told.has_told.applied in omega (arith, room, n, length-append taken (e ∷ [])));
   }
 
--- what waited was printed
+-- the waiting text was printed
 pub telling_passed : (limit : ℕ) (inv : Configuration) (clock : Option ℕ) (before : Option (List ℕ)) (taken : List Entry) (ledger : Ledger) (waiting waiting' : List ℕ) (now now' : Option (List ℕ)) → IsTelling limit inv clock before None taken ledger waiting now → Appends now now' waiting → waiting' ≡ []
     → IsTelling limit inv clock before None taken ledger waiting' now'
 telling_passed limit inv clock before taken ledger waiting waiting' now now' is passed none = record {
@@ -100,7 +100,7 @@ telling_passed limit inv clock before taken ledger waiting waiting' now now' is 
   within = is.within;
 }
 
--- the output did not take it, or a beginning alone
+-- the output took only a prefix of the waiting text, or nothing
 pub telling_stopped : (limit : ℕ) (inv : Configuration) (clock : Option ℕ) (before : Option (List ℕ)) (taken : List Entry) (ledger : Ledger) (waiting waiting' : List ℕ) (now now' : Option (List ℕ)) → IsTelling limit inv clock before None taken ledger waiting now → AppendsBeginning now now' waiting
     → IsTelling limit inv clock before (Some cause.Output) taken ledger waiting' now'
 telling_stopped limit inv clock before taken ledger waiting waiting' now now' is part = record {
@@ -115,7 +115,7 @@ telling_stopped limit inv clock before taken ledger waiting waiting' now now' is
   within = tt;
 }
 
--- the one or the other, by what was answered
+-- the waiting text was printed or not, by the result of the call
 pub telling_ended : {A : Type 0} → (limit : ℕ) (inv : Configuration) (clock : Option ℕ) (before : Option (List ℕ)) (taken : List Entry) (ledger ledger' : Ledger) (waiting waiting' : List ℕ) (now now' : Option (List ℕ)) (r : Result A RunCause) → ledger' ≡ ledger → IsTelling limit inv clock before None taken ledger waiting now
     → OnOk r ((waiting' ≡ []) × Appends now now' waiting) → OnErr r (AppendsBeginning now now' waiting) → IfErr r (λ c. c ≡ cause.Output) → IsTelling limit inv clock before (fault_in r) taken ledger' waiting' now'
 telling_ended limit inv clock before taken ledger ledger' waiting waiting' now now' (Ok x) same is passed stopped by =
@@ -138,9 +138,9 @@ telling_nothing limit now ledger waiting new counts lasts none = record {
   within = omega arith;
 }
 
--- ---- what a run that prints comes to
+-- ---- the result of a run that prints
 
--- the first were printed, by why the run came to its end
+-- the lines of a prefix of the entries were printed, by the cause of the run's end
 told_first : (limit : ℕ) (inv : Configuration) (clock : Option ℕ) (before : Option (List ℕ)) (c : RunCause) (taken : List Entry) (ledger : Ledger) (waiting : List ℕ) (now : Option (List ℕ)) → IsTelling limit inv clock before (fault_known (Some c)) taken ledger waiting now → HasToldPart inv clock taken c before now
 told_first limit inv clock before c taken ledger waiting now is = record {
   told = is.gone;
@@ -233,12 +233,12 @@ module _ {A : Type 0} (call : RunCall) (clock : Option ℕ) (B C : Type 0) (W : 
   pub followed_all : (why : Option RunCause) (run : Result (Followed A) (FollowFault A)) → Ended why → IsFollowedAs why followed before waiting now run → HasCome run × HasFaulted run × IsInRange run
   followed_all why run ended made = (followed_ok why run ended made, followed_err why run ended made, followed_bad why run ended made)
 
--- where the options are in range, a cause that is another says that they are
+-- where the options are in their ranges and the cause is not `BadOptions`, the cause agrees with the options
 pub never_bad : {R A : Type 0} → (range : Type 0) → range → (run : Result R (FollowFault A)) → IfErr run (λ e. e.cause ≢ cause.BadOptions) → IfErr run (λ e. (e.cause ≡ cause.BadOptions) ↔ (range → ⊥))
 never_bad range in_range (Ok r) other = tt
 never_bad range in_range (Err e) other = (λ bad. absurd (other bad), λ not. absurd (not in_range))
 
--- what is so of every run is so of one that came to its end
+-- a property that always holds also holds where the result is `Ok`
 pub always_ok : {R E : Type 0} (r : Result R E) (holds : Type 0) → holds → OnOk r holds
 always_ok (Ok x) holds is = is
 always_ok (Err e) holds is = tt

@@ -13,11 +13,11 @@ use Rattle.cmd_dispatch.specs.Sends.{HasKept, HasSent}
 use Rattle.cmd_dispatch.specs.Planned.{IsPlannedBy}
 use Rattle.cmd_dispatch.specs.Threads.{ArePlannedBy, HasPromised, HaveStarted, AreStarting, HasKeptIt, HaveEnded}
 
--- what stands after the first n of a list
+-- the element of a list after its first n
 at_place : {A : Type 0} (l xs ys : List A) (x d : A) (n : ℕ) → xs ++ x ∷ ys ≡ l → length xs ≡ n → get_or l n d ≡ x
 at_place l xs ys x d n e is = ap (λ m. get_or m n d) (sym e) ∙ get_or_at xs x ys d n is
 
--- what holds of each element by its place and of one more
+-- a property of each element by its index, and of one more element
 indexed_more : {A : Type 0} (P : ℕ → A → Type 0) (xs : List A) (x : A) → ((i : ℕ) (d : A) → i < length xs → P i (get_or xs i d)) → P (length xs) x → (i : ℕ) (d : A) → i < length (xs ++ x ∷ []) → P i (get_or (xs ++ x ∷ []) i d)
 indexed_more P [] x each last zero d low = last
 indexed_more P [] x each last (suc i) d low = absurd (omega arith)
@@ -25,7 +25,7 @@ indexed_more P (y ∷ ys) x each last zero d low = each 0 d (omega arith)
 indexed_more P (y ∷ ys) x each last (suc i) d low = indexed_more (λ j a. P (suc j) a) ys x (λ j e h. each (suc j) e (omega arith)) last i d (omega arith)
 
 module _ {F P : Type 0} (sides : List Sent) (feeds : List F) (reports : List P) (reading : Reading) where
-  -- before the first is started
+  -- before the first thread is started
   pub started_none : (ss : List Sent) (fs : List F) (ps : List P) (hs : List (PromisedHandle (Ended × P × F) (Promised F))) → hs ≡ [] → ss ≡ sides → fs ≡ feeds → ps ≡ reports → AreStarting sides feeds reports reading ss fs ps hs
   started_none ss fs ps hs none sides_are feeds_are reports_are = subst (AreStarting sides feeds reports reading ss fs ps) (sym none)
       (record { gone = []; done = []; told = []; sides_are = sides_are; feeds_are = feeds_are; reports_are = reports_are; sides_gone = refl; feeds_done = refl; reports_told = refl; promised = λ k h s f low. absurd (omega arith) })
@@ -53,20 +53,20 @@ module _ {F P : Type 0} (sides : List Sent) (feeds : List F) (reports : List P) 
             k d low;
       }
 
-  -- the same of the list that it is kept in
+  -- the same for the list to which the handle is appended
   pub started_more : (s : Sent) (ss : List Sent) (f : F) (fs : List F) (p : P) (ps : List P) (hs : List (PromisedHandle (Ended × P × F) (Promised F))) (h : PromisedHandle (Ended × P × F) (Promised F)) (ss' : List Sent) (fs' : List F) (ps' : List P)
       (hs' : List (PromisedHandle (Ended × P × F) (Promised F)))
       → AreStarting sides feeds reports reading ss' fs' ps' hs → ss' ≡ s ∷ ss → fs' ≡ f ∷ fs → ps' ≡ p ∷ ps → HasPromised reading h s f → hs' ≡ hs ++ h ∷ [] → AreStarting sides feeds reports reading ss fs ps hs'
   started_more s ss f fs p ps hs h ss' fs' ps' hs' is next_side next_feed next_report own kept = subst (AreStarting sides feeds reports reading ss fs ps) (sym kept) (started_one s ss f fs p ps hs h ss' fs' ps' is next_side next_feed next_report own)
 
-  -- where all are started
+  -- all threads are started
   pub started_all : (ss : List Sent) (fs : List F) (ps : List P) (hs : List (PromisedHandle (Ended × P × F) (Promised F))) → AreStarting sides feeds reports reading ss fs ps hs → fs ≡ [] → HaveStarted sides feeds reading hs true
   started_all ss fs ps hs is none =
       let n : length feeds ≡ length is.done = ap length (sym is.feeds_are) ∙ ap (λ (l : List F). length (is.done ++ l)) none ∙ ap length (append-nil is.done) in
       let d = is.feeds_done in
       record { few = omega arith; all_are = λ all. omega arith; not_all = λ e. absurd (true≢false e); promised = is.promised }
 
-  -- where the next was not started
+  -- the next thread was not started
   pub started_some : (ss : List Sent) (f : F) (fs fs' : List F) (ps : List P) (hs : List (PromisedHandle (Ended × P × F) (Promised F))) → AreStarting sides feeds reports reading ss fs' ps hs → fs' ≡ f ∷ fs → HaveStarted sides feeds reading hs false
   started_some ss f fs fs' ps hs is next =
       let n : length feeds ≡ length (is.done ++ (f ∷ fs)) = ap length (sym is.feeds_are) ∙ ap (λ (l : List F). length (is.done ++ l)) next in
@@ -97,14 +97,14 @@ next_is_planned {F = F} remaining sides feeds gone rest rest' done left left' s 
     let low : length done < length feeds = omega (arith, ap length e', length-append done (f ∷ left)) in
     subst (λ (y : Sent × F). IsPlannedBy (remaining y.1) y.0) (λ i. (at_place sides gone rest s s (length done) e same i, at_place feeds done left f f (length done) e' refl i)) (planned (length done) s f low)
 
--- each report by its place, once one more is there
+-- a property of each report by its index, with one more report
 told_left : {P : Type 0} (has_taken : P → List (ℕ × LineFault) → Type 0) (ps : List P) (p : P) (i : ℕ) (refused : List (ℕ × LineFault)) → i < length ps → taken_at has_taken ps i refused → taken_at has_taken (ps ++ p ∷ []) i refused
 told_left has_taken ps p i refused low told = λ d. subst (λ x. has_taken x refused) (sym (get_or_append_left ps (p ∷ []) d i low)) (told d)
 
 told_last : {P : Type 0} (has_taken : P → List (ℕ × LineFault) → Type 0) (ps : List P) (p : P) (n : ℕ) (refused : List (ℕ × LineFault)) → length ps ≡ n → has_taken p refused → taken_at has_taken (ps ++ p ∷ []) n refused
 told_last has_taken ps p n refused is told = λ d. subst (λ x. has_taken x refused) (sym (get_or_push ps p d n is)) told
 
--- what was sent is so of what was delivered
+-- `HasSent` remains true where refused lines that were taken stay taken
 sent_as : (before after : Option (List ℕ)) (fails fills : Bool) (piece reads : ℕ) (queue : QueueId) (sender : ℕ) (e : Ended) (r : SenderReport) (was now : List (ℕ × LineFault) → Type 0) → HasKept was now → HasSent before after fails fills piece reads queue sender e r was → HasSent before after fails fills piece reads queue sender e r now
 sent_as before after fails fills piece reads queue sender e r was now kept is = record {
   queue_is = is.queue_is;
@@ -148,7 +148,7 @@ module _ {F P : Type 0} (remaining : F → Option (List ℕ)) (fails fills : F �
             k h₀ low;
       }
 
-  -- the same of the lists that they are kept in
+  -- the same for the lists to which the ends and reports are appended
   pub ended_more : (hs : List (PromisedHandle (Ended × P × F) (Promised F))) (es es' : List Ended) (ps ps' : List P) (h : PromisedHandle (Ended × P × F) (Promised F)) (e : Ended) (p : P)
       → HaveEnded remaining fails fills hs es (map view ps) (taken_at has_taken ps) → HasKeptIt remaining fails fills h e (view p) (has_taken p) → es' ≡ es ++ e ∷ [] → ps' ≡ ps ++ p ∷ [] → HaveEnded remaining fails fills (hs ++ h ∷ []) es' (map view ps') (taken_at has_taken ps')
   ended_more hs es es' ps ps' h e p are kept ends reports =

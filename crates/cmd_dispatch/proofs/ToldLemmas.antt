@@ -1,4 +1,4 @@
--- What a reader of lines has given begins the items of the text.
+-- The items that a reader of lines has returned are a prefix of the items of the text.
 use Rattle.std.proofs.Common.{◌≡◌, ◌≤◌, inl, inr, ℕ, ◌+◌, ◌*◌, length, Bool, List, [], ◌∷◌, ◌++◌, sym, ap, ◌∙◌, append-nil, append_assoc, Option, Some, None, Result, Ok, Err, refl}
 use Rattle.std.specs.Prelude.{IfSome, OnOk, OnErr}
 use Rattle.std.specs.Io.KnownBytes.{Consumes, IsAtEnd}
@@ -20,7 +20,7 @@ first_at Open n pending f g c = (items_from Open n (pending ++ []), ap (known Op
 first_at Finished n pending f g c = (items_from Finished n pending, c)
 first_at CutOff n pending f g c = (items_from CutOff n pending, c)
 
--- the items that a reader gave come first among those that are known of the text
+-- the items that a reader of lines returned are a prefix of those that the text determines so far
 pub first_given : (w : Waiting) (f : List ℕ) (g : List Item) → Stands w f g → BeginsWith (known w.phase f) g
 first_given w f g s = first_at w.phase w.number w.pending f g s.1
 
@@ -29,7 +29,7 @@ first_more_at Open n pending f piece g is c = (items_from Open n (pending ++ pie
 first_more_at Finished n pending f piece g is c = cc
 first_more_at CutOff n pending f piece g is c = cc
 
--- also where the text goes on
+-- the same where the text continues
 pub first_more : (w : Waiting) (f piece : List ℕ) (g : List Item) → w.phase ≡ Open → Stands w f g → BeginsWith (items_so_far (f ++ piece)) g
 first_more w f piece g is s = first_more_at w.phase w.number w.pending f piece g is s.1
 
@@ -41,7 +41,7 @@ so_far_at n (line ∷ (next ∷ others)) =
     let rest = so_far_at (n + 1) (next ∷ others) in
     (rest.0, ap (λ (l : List Item). line_items n line ++ l) rest.1 ∙ sym (append_assoc (line_items n line) (all_items Open (n + 1) (next ∷ others)) rest.0))
 
--- those of its lines up to the last line feed come first among those of the whole text
+-- the items of the lines up to the last line feed are a prefix of those of the whole text
 pub so_far_first : (text : List ℕ) → BeginsWith (items text) (items_so_far text)
 so_far_first text = so_far_at 1 (split_lines text)
 
@@ -57,7 +57,7 @@ first_begun remaining fails fills piece reads ending.QueueRefused text given is 
 pub first_told : (remaining : Option (List ℕ)) (fails fills : Bool) (piece reads : ℕ) (how : Ending) (text : List ℕ) → IsEnded remaining fails fills piece reads text how → AreFirst remaining fails reads text (items_by how text)
 first_told remaining fails fills piece reads how text is = first_begun remaining fails fills piece reads how text (items_by how text) is (begins_all (items_by how text))
 
--- ---- what holds of an answer
+-- ---- properties of a result
 
 pub on_ok : {A E : Type 0} {P Q : Type 0} (r : Result A E) → (P → Q) → OnOk r P → OnOk r Q
 on_ok (Ok x) f h = f h
@@ -67,7 +67,7 @@ pub always_on_err : {A E : Type 0} {P : Type 0} (r : Result A E) → P → OnErr
 always_on_err (Ok x) h = tt
 always_on_err (Err e) h = h
 
--- ---- what was delivered
+-- ---- the delivered bytes
 
 pub delivered : (before after : Option (List ℕ)) (piece reads : ℕ) (text : List ℕ) → Consumes before after text → length text ≤ reads * piece → IsDelivered before piece reads text
 delivered before after piece reads text c bound = (bound, front before after text c)
@@ -77,7 +77,7 @@ delivered before after piece reads text c bound = (bound, front before after tex
     front (Some xs) None text c = absurd c
     front (Some xs) (Some ys) text c = (ys, c)
 
--- at the end of a reader all was delivered
+-- at the end of a reader all its bytes were delivered
 pub all_delivered : (before after : Option (List ℕ)) (text : List ℕ) → Consumes before after text → IsAtEnd after → IfSome before (λ bytes. text ≡ bytes)
 all_delivered None after text c end = tt
 all_delivered (Some xs) None text c end = absurd c

@@ -1,4 +1,4 @@
--- What is published of a run, at its beginning and at its end.
+-- The list that a run has published, at its beginning and at its end.
 use Rattle.std.proofs.Common.{◌≡◌, inl, inr, ⊎_elim, List, [], ◌∷◌, ◌++◌, Some, Result, Ok, Err, MatchResult, IfOk, IfErr, OnOk, ap, subst, sym, ◌∙◌}
 use Rattle.cmd_types.specs.declared.entry.Entry.{Entry}
 use Rattle.mon_inventory.specs.Configuration.{Configuration}
@@ -13,7 +13,7 @@ use Rattle.cmd_dispatch.specs.Delivered.{BeginsWith}
 use Rattle.cmd_dispatch.specs.Watching.{IsShown, IsBehind}
 use Rattle.cmd_dispatch.proofs.CutLemmas.{begins_twice}
 
--- what is published stands for the journal, by why the run has no report
+-- the published list follows the journal, by the cause for which the run has no report
 pub shown_known : (shows : List Entry → Type 0) (c : RunCause) (journal : List Entry) → IsShown shows (fault_known (Some c)) journal → IsShown shows (Some c) journal
 shown_known shows cause.BadOptions journal h = h
 shown_known shows cause.Memory journal h = h
@@ -46,7 +46,7 @@ pub run_published : (run : Result RunReport FailedRun) (inv : Configuration) (s 
 run_published (Ok r) inv s h = h.1
 run_published (Err e) inv s h = tt
 
--- what holds of a run holds of what it answers
+-- a property of a run holds of its result
 pub reported_ok : (run : Result RunReport FailedRun) (out : Result RunReport RunFault) (P : RunReport → Type 0) → out ≡ reported run → IfOk run P → IfOk out P
 reported_ok (Ok r) out P is h = subst (λ (o : Result RunReport RunFault). IfOk o P) (sym is) h
 reported_ok (Err e) out P is h = subst (λ (o : Result RunReport RunFault). IfOk o P) (sym is) tt
@@ -76,7 +76,7 @@ begun_behind cause.QueueLost journal published seen is more = subst (λ (l : Lis
 begun_behind (cause.SenderStopped k) journal published seen is more = subst (λ (l : List Entry). BeginsWith l seen) is more
 begun_behind cause.Output journal published seen is more = subst (λ (l : List Entry). BeginsWith l seen) is more
 
--- what begins the published list begins the journal of the answer
+-- a prefix of the published list is a prefix of the journal in the result
 pub seen_begins : (out : Result RunReport RunFault) (published : List Entry) → IfOk out (λ r. published ≡ r.journal.entries) → IfErr out (λ e. IsBehind e.cause e.journal.entries published)
     → (seen : List Entry) → BeginsWith published seen → MatchResult out (λ r. BeginsWith r.journal.entries seen) (λ e. BeginsWith e.journal.entries seen)
 seen_begins (Ok r) published is late seen more = subst (λ (l : List Entry). BeginsWith l seen) is more

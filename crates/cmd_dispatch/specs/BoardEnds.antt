@@ -1,4 +1,4 @@
--- What contracts see of the ends of a board.
+-- The views of a board's writer and readers in contracts.
 use Rattle.std.specs.Prelude.{◌≡◌, ◌<◌, ℕ, List, [], true, Option, Some, None}
 use Rattle.atomic_table.specs.Seated.{TableId}
 use Rattle.atomic_table.specs.declared.shared.Seat.{Seat}
@@ -37,7 +37,7 @@ IsWriterAt table None = ⊥
 
 -- ---- of private contracts alone
 
--- a writer's seat; it is away only while a run publishes with it
+-- a writer's seat; only a run that publishes takes it out
 abbrev pub writing_of : Place → Writing
 writing_of p = record { board = p.table_id; inventory = p.me.0.inventory; published = p.me.0.published }
 

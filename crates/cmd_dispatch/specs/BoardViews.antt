@@ -21,7 +21,7 @@ writer_view inv published kept = record { inventory = inv; writes = true; publis
 abbrev pub reader_view : Configuration → List Entry → SeatView
 reader_view inv seen = record { inventory = inv; writes = false; published = []; kept = []; reads = true; seen = seen }
 
--- a seat that was given back knows nothing
+-- a seat that was gathered knows nothing
 abbrev pub spent : SeatView
 spent = record { inventory = nothing; writes = false; published = []; kept = []; reads = false; seen = [] }
 
@@ -29,7 +29,7 @@ spent = record { inventory = nothing; writes = false; published = []; kept = [];
 abbrev pub keeping : SeatView → SeatView → SeatView
 keeping v w = writer_view v.inventory v.published (w.seen ∷ v.kept)
 
--- the word is that of the figures of what a list of entries means
+-- the word packs the figures of the monitor to which this list of entries leads
 pub record Shows (inv : Configuration) (list : List Entry) (found : ℕ) : Type 0 where
   pub word_is : found ≡ word (figures (meaning inv list))
   pub small : IsSmall (figures (meaning inv list))
@@ -47,11 +47,12 @@ Sat = Me ℕ SeatView
 abbrev pub Published : List Entry → Sat → Sat → Type 0
 Published list m m' = m' ≡ (writer_view m.0.inventory list m.0.kept, m.1)
 
--- a list was seen that begins with the list seen before, and the word found is that of its figures
+-- the reader has seen a list that begins with the list seen before, and the word that it found packs the figures of
+-- this list
 abbrev pub Looked : Sat → ℕ → Sat → Type 0
 Looked m found m' =
     (list : List Entry) × (m' ≡ (reader_view m.0.inventory list, m.1)) × BeginsWith list m.0.seen × Shows m.0.inventory list found
 
--- each kept list begins the published one
+-- each kept list is a prefix of the published one
 abbrev pub Checked : Sat → Sat → Type 0
 Checked m m' = (m' ≡ m) × ArePrefixes m.0.kept m.0.published

@@ -12,6 +12,6 @@ line_of t = canonical t ++ 10 ∷ []
 abbrev pub IsMade : Timed → Type 0
 IsMade t = IsWellFormed t × (length (line_of t) ≤ LONGEST_MADE)
 
--- a command that was made consumes its line; where none is made the feed is at its end; a failure consumes nothing
+-- a command that is made consumes its line; where none is made, the feed is at its end; a failure consumes nothing
 abbrev pub MakeConsumes : {E : Type 0} → (before after : Option (List ℕ)) → Result (Option Timed) E → Type 0
 MakeConsumes before after made = MatchResult made (λ o. MatchOption o (Keeps before after × IsAtEnd after) (λ t. Consumes before after (line_of t))) (λ _. Keeps before after)

@@ -12,23 +12,23 @@ use Rattle.cmd_run.specs.Senders.{AreOf}
 abbrev pub spelled : (remaining : Option (List ℕ)) → Option (List Timed)
 spelled remaining = option_map (λ text. commands (items text)) remaining
 
--- the entries of a run with this plan: each is of one of its senders, and they are of the plan
+-- the entries are of a run with this plan: each is of one of its senders, and together they are of the plan
 abbrev pub AreOfRun : Plan → List Entry → Type 0
 AreOfRun plan entries = AreOf (length plan) entries × AreOfPlan plan entries
 
 module _ {F : Type 0} where
-  -- the plan of a run over these feeds: of each the commands that its text spells
+  -- the plan of a run over these feeds: for each feed the commands that its text spells
   abbrev pub plan_of : (remaining : F → Option (List ℕ)) → List F → Plan
   plan_of remaining feeds = map (λ feed. spelled (remaining feed)) feeds
 
-  -- The feeds of a run may have sent these entries: each is of one of the feeds, and of each feed whose text is known its
-  -- commands among them are the first of those that the text spells, in order and each once
+  -- The feeds of a run may have sent these entries: each entry is of one of the feeds; and for each feed whose text is
+  -- known, its commands among them are a prefix of those that the text spells
   abbrev pub AreOfFeeds : (remaining : F → Option (List ℕ)) → List F → List Entry → Type 0
   AreOfFeeds remaining feeds entries = AreOfRun (plan_of remaining feeds) entries
 
 -- ---- of private contracts alone
 
--- what a sender has sent is of the plan of its queue
+-- the commands that a sender has sent are of the plan of its queue
 abbrev pub IsOfPlan : Sent → Type 0
 IsOfPlan side = ComeFirst (planned_of side.queue.plan side.sender) (commands_in side.list)
 

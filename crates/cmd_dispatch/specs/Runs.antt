@@ -27,9 +27,10 @@ use Rattle.cmd_run.specs.Senders.{AreOf}
 use Rattle.cmd_dispatch.specs.RunCalls.{Source, RunCall}
 use Rattle.cmd_dispatch.specs.Dispatches.{AreTakenOf, Means}
 
--- ---- what came of a run
+-- ---- the outcome of a run
 
--- the entries in the order in which they were applied, the monitor after them, the report of each sender, and what was settled
+-- the entries in the order in which they were applied, the monitor after them, the report of each sender, and the
+-- settled queue
 pub record Outcome : Type 0 where
   pub journal : List Entry
   pub monitor : Held
@@ -39,7 +40,7 @@ pub record Outcome : Type 0 where
 abbrev pub outcome : RunReport → Outcome
 outcome report = record { journal = report.journal.entries; monitor = report.monitor; reports = report.senders.items; settled = report.settled }
 
--- where no journal is kept, the list of what was taken is the journal
+-- where no journal is kept, the list of the taken entries is the journal
 abbrev pub taken_outcome : Held → List SenderReport → Settlement → Outcome
 taken_outcome monitor reports settled = record { journal = entries settled.list; monitor = monitor; reports = reports; settled = settled }
 
@@ -48,8 +49,8 @@ unkept_outcome report = taken_outcome report.monitor report.senders.items report
 
 -- ---- a run that has a report
 
--- Of the sender k, which read this feed: the journal restricted to k is exactly the list of
--- commands that its text spells, in order and each once, and its report is of that text
+-- The sender k, which read this feed: the journal restricted to k is exactly the list of commands that its text spells,
+-- in order and each once, and its report is of that text
 pub record IsReportedBy (source : Source) (k : ℕ) (journal : List Entry) (report : SenderReport) (are_refused : List (ℕ × LineFault) → Type 0) : Type 0 where
   -- the bytes that its reader delivered
   pub text : List ℕ
@@ -66,20 +67,20 @@ are_listed report refused = report.refused.items ≡ refused
 abbrev pub IsReported : Source → (k : ℕ) → (journal : List Entry) → (report : SenderReport) → Type 0
 IsReported source k journal report = IsReportedBy source k journal report (are_listed report)
 
--- What was taken of each feed is its entries in the journal and then its close mark, with the number of commands that it
--- reports, and nothing was taken that is of no feed
+-- The messages taken of each feed are its entries in the journal and then its close mark, with the number of commands
+-- that it reports; every message that was taken is of a feed
 pub record HaveClosedWith (readers : ℕ) (journal : List Entry) (reports : List SenderReport) (settled : Settlement) : Type 0 where
   pub of_each : (k : ℕ) (r : SenderReport) → k < readers
       → lists.of_sender k settled.list ≡ map Command (of_sender k journal) ++ Closed k (slice_index_or reports k r).accepted ∷ []
   pub of_no_other : AreTakenOf readers settled.list
 
--- IsToldBy holds of each feed and the report at its place
+-- each feed is reported by the report at its index, as `IsReportedBy` says
 abbrev pub AreReported : List Source → (journal : List Entry) → List SenderReport → Type 0
 AreReported sources journal reports = (k : ℕ) (s : Source) (r : SenderReport) → k < length sources → IsReported (slice_index_or sources k s) k journal (slice_index_or reports k r)
 
--- a run that has a report: what was asked of it, and what came of it
+-- a run that has a report: its arguments and its outcome
 pub record HasRun (call : RunCall) (run : Outcome) : Type 0 where
-  -- what was taken, marks aside, is the journal
+  -- the taken entries, without the close marks, are the journal
   pub settled_is : entries run.settled.list ≡ run.journal
   pub settled_of : run.settled.senders ≡ length call.sources
   pub closed : HaveClosedWith (length call.sources) run.journal run.reports run.settled
@@ -92,7 +93,7 @@ pub record HasRun (call : RunCall) (run : Outcome) : Type 0 where
 
 -- ---- the end of a run
 
--- The first sender that stopped, since memory ran out: the queue refused no sender
+-- The first sender that stopped, because memory ran out; the queue refused no sender
 pub record IsFirstStopped (k : ℕ) (reports : List SenderReport) : Type 0 where
   pub known : k < length reports
   pub stopped : (r : SenderReport) → (slice_index_or reports k r).ending ≡ ending.Memory
@@ -101,7 +102,7 @@ pub record IsFirstStopped (k : ℕ) (reports : List SenderReport) : Type 0 where
 
 -- ---- a run that failed
 
--- what is known of the journal and the reports by the cause
+-- the facts on the journal and the reports that each cause implies
 abbrev pub IsOfCause : (readers limit : ℕ) → RunCause → List Entry → List SenderReport → Type 0
 IsOfCause readers limit BadOptions journal reports = (journal ≡ []) × (reports ≡ [])
 IsOfCause readers limit (Spawn k) journal reports = (journal ≡ []) × (length reports ≡ k) × (k < readers)
@@ -117,21 +118,21 @@ IsLimitAfter limit BadOptions reports found = found ≡ 1
 IsLimitAfter limit Memory reports found = (found ≡ limit) ⊎ ((reports ≡ []) × (found ≡ 1))
 IsLimitAfter limit _ reports found = found ≡ limit
 
--- The sender k after a fault: the first commands that its text spells were put into the queue, as many
--- as it reports, and the first of these are in the journal; all of them where nothing failed but a
--- sender that stopped
+-- The sender k after a fault: as many commands as it reports, a prefix of those that its text spells, were put into the
+-- queue, and a prefix of these is in the journal; all of these where the only fault is a sender that stopped
 pub record IsBegunBy (source : Source) (cause : RunCause) (k : ℕ) (journal : List Entry) (report : SenderReport) (are_refused : List (ℕ × LineFault) → Type 0) : Type 0 where
   -- the bytes that its reader delivered
   pub text : List ℕ
   pub delivered : IsDelivered source.remaining source.piece source.reads text
   pub accepted : report.accepted ≤ length (commands (items text))
-  -- a last line without its line feed was taken only where the reader delivered all that it has
+  -- the command of an unfinished last line was taken only where the text is all bytes of the reader
   pub unfinished : IsAll source.remaining text ⊎ (report.accepted ≤ length (commands (items_so_far text)))
   pub journaled : BeginsWith (entries_of k (take report.accepted (commands (items text)))) (of_sender k journal)
   pub all_journaled : (j : ℕ) → cause ≡ SenderStopped j → of_sender k journal ≡ entries_of k (take report.accepted (commands (items text)))
-  -- the first were refused, with those of a broken text only where it may have broken off
+  -- a prefix of the refused lines was reported; a line that is refused because the text broke off, only where the text
+  -- may have broken off
   pub refused : (first : List (ℕ × LineFault)) × are_refused first × (BeginsWith (refusals (items text)) first ⊎ (MayBreakOff source.fails source.reads text × BeginsWith (refusals (items_cut text)) first))
-  -- a complete ending comes only as in a run that has a report
+  -- a complete ending has the same meaning as in a run that has a report
   pub ended : is_complete report.ending ≡ true → IsEnded source.remaining source.fails source.fills source.piece source.reads text report.ending
   pub all_accepted : is_complete report.ending ≡ true → report.accepted ≡ length (commands (items_by report.ending text))
   pub all_refused : is_complete report.ending ≡ true → are_refused (refusals (items_by report.ending text))
@@ -139,11 +140,11 @@ pub record IsBegunBy (source : Source) (cause : RunCause) (k : ℕ) (journal : L
 abbrev pub IsBegun : Source → (cause : RunCause) → (k : ℕ) → (journal : List Entry) → (report : SenderReport) → Type 0
 IsBegun source cause k journal report = IsBegunBy source cause k journal report (are_listed report)
 
--- IsBegunBy holds of each sender that was started
+-- `IsBegunBy` holds for each sender that was started
 abbrev pub AreBegun : List Source → RunCause → (journal : List Entry) → List SenderReport → Type 0
 AreBegun sources cause journal reports = (k : ℕ) (s : Source) (r : SenderReport) → k < length reports → IsBegun (slice_index_or sources k s) cause k journal (slice_index_or reports k r)
 
--- a run that failed: its options and feeds, its cause, and its journal and reports then
+-- a run that failed: its options and feeds, its cause, and its journal and reports at that time
 pub record HasFailed (call : RunCall) (cause : RunCause) (journal : List Entry) (reports : List SenderReport) : Type 0 where
   pub few : length reports ≤ length call.sources
   -- each entry of the journal is of a sender that was started
@@ -154,20 +155,20 @@ pub record HasFailed (call : RunCall) (cause : RunCause) (journal : List Entry) 
 
 -- ---- a run, whatever its log
 
--- what is known of the reports by the cause, and of the entries that were passed to the log
+-- the facts on the reports and on the entries passed to the log that each cause implies
 abbrev pub IsEndedBy : (readers : ℕ) → RunCause → (logged : List Entry) → List SenderReport → Type 0
 IsEndedBy readers BadOptions logged reports = ⊥
 IsEndedBy readers (Spawn k) logged reports = (logged ≡ []) × (length reports ≡ k) × (k < readers)
 IsEndedBy readers (SenderStopped k) logged reports = (length reports ≡ readers) × IsFirstStopped k reports
 IsEndedBy readers cause logged reports = (length reports ≡ readers) × (length logged ≤ sum_by (λ r. r.accepted) reports)
 
--- the close mark of each of so many senders was taken
+-- the close mark of each of `readers` senders was taken
 abbrev pub HaveAllClosed : (readers : ℕ) → Settlement → Type 0
 HaveAllClosed readers settled = (k : ℕ) → k < readers → lists.is_closed k settled.list ≡ true
 
--- What was taken of a run that failed. The journal is a beginning of it, in order; and all of it where the queue was
--- lost, before all marks were taken, and, with the close mark of each sender, where nothing failed but a sender that
--- stopped. Of a sender whose mark was taken as many commands were taken as it reports
+-- The messages taken by a run that failed. The journal is a prefix of the taken entries. It is all of them where the
+-- queue was lost, before all marks were taken, and where the only fault is a sender that stopped; then the mark of each
+-- sender was taken too. Of a sender whose mark was taken, as many commands were taken as it reports
 pub record IsPartSettled (readers : ℕ) (cause : RunCause) (journal : List Entry) (reports : List SenderReport) (settled : Settlement) : Type 0 where
   pub of_queue : settled.senders ≡ readers
   pub journaled : BeginsWith (entries settled.list) journal
@@ -177,7 +178,7 @@ pub record IsPartSettled (readers : ℕ) (cause : RunCause) (journal : List Entr
   pub counted : (k : ℕ) (r : SenderReport) → k < length reports → lists.is_closed k settled.list ≡ true → length (of_sender k (entries settled.list)) ≡ (slice_index_or reports k r).accepted
   pub still_open : cause ≡ QueueLost → HaveAllClosed readers settled → ⊥
 
--- a run of these feeds that came to its end: what was taken
+-- a run of these feeds that came to its end: the taken messages
 pub record HasFed (sources : List Source) (reports : List SenderReport) (refused : ℕ → List (ℕ × LineFault) → Type 0) (settled : Settlement) : Type 0 where
   pub settled_of : settled.senders ≡ length sources
   pub closed : HaveClosedWith (length sources) (entries settled.list) reports settled
@@ -186,7 +187,7 @@ pub record HasFed (sources : List Source) (reports : List SenderReport) (refused
   pub one_each : length reports ≡ length sources
   pub reported_are : (k : ℕ) (s : Source) (r : SenderReport) → k < length sources → IsReportedBy (slice_index_or sources k s) k (entries settled.list) (slice_index_or reports k r) (refused k)
 
--- a run of these feeds that failed: what was taken, of which these entries were passed to the log
+-- a run of these feeds that failed: the taken messages, of which these entries were passed to the log
 pub record HasPartFed (sources : List Source) (cause : RunCause) (logged : List Entry) (reports : List SenderReport) (refused : ℕ → List (ℕ × LineFault) → Type 0) (settled : Settlement) : Type 0 where
   pub few : length reports ≤ length sources
   pub known : AreOf (length reports) logged
@@ -201,25 +202,25 @@ abbrev pub reported : Result RunReport FailedRun → Result RunReport RunFault
 reported (Ok report) = Ok report
 reported (Err failed) = Err failed.fault
 
--- the fault that the log knows of, by why the run has no report
+-- the fault of which the log knows, by the cause for which the run has no report
 abbrev pub fault_known : Option RunCause → Option RunCause
 fault_known None = None
 fault_known (Some (Spawn k)) = None
 fault_known (Some (SenderStopped k)) = None
 fault_known (Some cause) = Some cause
 
--- a run of these feeds that came to its end or failed, and what its log holds
+-- a run of these feeds that came to its end or failed, and the contents of its log
 pub record HasEnded (sources : List Source) (holds : Option RunCause → List Entry → Type 0) (cause : Option RunCause) (reports : List SenderReport) (refused : ℕ → List (ℕ × LineFault) → Type 0) (settled : Settlement) : Type 0 where
   pub logged : List Entry
   pub held : holds (fault_known cause) logged
   pub ran : MatchOption cause ((logged ≡ entries settled.list) × HasFed sources reports refused settled) (λ c. HasPartFed sources c logged reports refused settled)
 
--- IsPartSettled where a queue was settled; else nothing is journaled and nothing reported
+-- `IsPartSettled` where a queue was settled; else nothing is journaled or reported
 abbrev pub IsSettledAs : (readers : ℕ) → RunCause → (journal : List Entry) → List SenderReport → Option Settlement → Type 0
 IsSettledAs readers cause journal reports None = (journal ≡ []) × (reports ≡ [])
 IsSettledAs readers cause journal reports (Some settled) = IsPartSettled readers cause journal reports settled
 
--- a run that came to its end has this report, and one that failed by a cause has what the report would be in its fault
+-- a run that came to its end has this report; the fault of a run that failed has the parts of this report and the cause
 abbrev pub IsMadeOf : (cause : Option RunCause) → RunReport → Result RunReport FailedRun → Type 0
 IsMadeOf None report run = run ≡ Ok report
 IsMadeOf (Some c) report run = run ≡ Err (record { fault = record { cause = c; journal = report.journal; senders = report.senders }; settled = Some report.settled })
@@ -228,25 +229,25 @@ IsMadeOf (Some c) report run = run ≡ Err (record { fault = record { cause = c;
 abbrev pub AreComplete : List SenderReport → Type 0
 AreComplete reports = (i : ℕ) (r : SenderReport) → i < length reports → is_complete (slice_index_or reports i r).ending ≡ true
 
--- the sender of least number whose ending is not complete
+-- the sender with the smallest number whose ending is not complete
 pub record IsFirstIncomplete (k : ℕ) (reports : List SenderReport) : Type 0 where
   pub known : k < length reports
   pub stopped : (r : SenderReport) → is_complete (slice_index_or reports k r).ending ≡ false
   pub others : (i : ℕ) (r : SenderReport) → i < k → is_complete (slice_index_or reports i r).ending ≡ true
 
--- where not all threads were started, the first that was not is the fault
+-- where not all threads were started, the fault is `Spawn` with the number of the first that was not
 abbrev pub IsSpawned : (all : Bool) → (count : ℕ) → Option RunCause → Type 0
 IsSpawned true count fault = fault ≡ None
 IsSpawned false count fault = fault ≡ Some (Spawn count)
 
--- why a run has no report: what failed, or else the first sender that stopped
+-- why a run has no report: its fault, or else the first sender that stopped
 abbrev pub IsCause : (fault : Option RunCause) → List SenderReport → Option RunCause → Type 0
 IsCause (Some cause) reports found = found ≡ Some cause
 IsCause None reports None = AreComplete reports
 IsCause None reports (Some (SenderStopped k)) = IsFirstIncomplete k reports
 IsCause None reports (Some _) = ⊥
 
--- the answer of a run that keeps no entry, by its cause: the report, or the cause with the senders' reports
+-- the result of a run that keeps no entry, by its cause: the report, or the cause with the senders' reports
 abbrev pub IsUnkept : (cause : Option RunCause) → UnkeptReport → Result UnkeptReport UnkeptFault → Type 0
 IsUnkept None report run = run ≡ Ok report
 IsUnkept (Some c) report run = run ≡ Err (record { cause = c; senders = report.senders })

@@ -1,4 +1,4 @@
--- What a sender passes on of its feed, and what its thread promises.
+-- The items of its feed that a sender passes on, and the promise of its thread.
 use Rattle.std.specs.Prelude.{◌≡◌, ◌⊎◌, ℕ, ◌+◌, ◌*◌, ◌<◌, ◌≤◌, Bool, true, List, [], ◌∷◌, ◌++◌, length, Option, vec_capacity}
 use Rattle.std.specs.Io.KnownBytes.{Consumes}
 use Rattle.cmd_types.specs.Entries.{entries_of}
@@ -26,30 +26,28 @@ use Rattle.cmd_dispatch.specs.Delivered.{items_by, BeginsWith, FillsPieces, IsEn
 
 -- ---- of private contracts alone
 
--- ---- what the thread of a sender promises
+-- ---- the promise of a sender's thread
 
--- what a sender has sent in all, by how it ended: its commands and then the close mark with their
--- number, unless the queue refused
+-- all that a sender has sent, by its ending: its commands and then the close mark with their number, unless the queue
+-- refused
 abbrev pub in_all : Ending → (sender : ℕ) → List Taken → List Taken
 in_all ending.QueueRefused sender sent = sent
 in_all how sender sent = sent ++ Closed sender (length sent) ∷ []
 
--- which items of a text were given, by how the sender ended: all of them, or the first where it
--- stopped
+-- the items of a text that were passed on, by the sender's ending: all of them, or a prefix where the sender stopped
 abbrev pub AreGiven : (remaining : Option (List ℕ)) → (fails fills : Bool) → (piece reads : ℕ) → (text : List ℕ) → Ending → List Item → Type 0
 AreGiven remaining fails fills piece reads text ending.Memory given = AreFirst remaining fails reads text given
 AreGiven remaining fails fills piece reads text ending.QueueRefused given = AreFirst remaining fails reads text given
 AreGiven remaining fails fills piece reads text how given = (given ≡ items_by how text) × IsEnded remaining fails fills piece reads text how
 
--- which of the commands of these items were put into the queue: all of them, or the first where the
--- queue refused
+-- the commands that were put into the queue: all of them, or a prefix where the queue refused
 abbrev pub ArePut : Ending → (commands put : List Timed) → Type 0
 ArePut ending.QueueRefused commands put = BeginsWith commands put
 ArePut how commands put = put ≡ commands
 
--- A sender of this queue with a feed that had these bytes left before and has these left afterwards: the text
--- is all that its reads gave, and of its items it sent the commands, reports the number of these, and
--- passed the refusals to its attendant
+-- A sender of this queue, whose feed had the bytes `before` left at first and has `after` left now. The text is all
+-- bytes that its reads gave. Of the items of the text it sent the commands, reports their number, and passed the
+-- refused lines to its attendant.
 pub record HasSent (before after : Option (List ℕ)) (fails fills : Bool) (piece reads : ℕ) (queue : QueueId) (sender : ℕ) (end : Ended) (report : SenderReport) (refused : List (ℕ × LineFault) → Type 0) : Type 0 where
   pub queue_is : end.queue ≡ queue
   pub sender_is : end.sender ≡ sender
@@ -71,11 +69,11 @@ abbrev pub HasKept : (before now : List (ℕ × LineFault) → Type 0) → Type 
 HasKept before now = (refused : List (ℕ × LineFault)) → before refused → now refused
 
 module _ {P : Type 0} where
-  -- the side of a sender as it is once it has sent what it gathered
+  -- the side of a sender once it has sent the gathered commands
   abbrev pub ahead : Sending P → Sent
   ahead sending = with_commands sending.side sending.gathered.items
 
-  -- what was gathered fits into a message and comes next in the plan, and all places are numbers of 64 bits
+  -- the gathered commands fit into a message and come next in the plan, and all places fit into 64 bits
   abbrev pub IsWithin : Sending P → Type 0
   IsWithin sending = (length sending.gathered.items ≤ MOST_TOGETHER) × (length (ahead sending).list ≤ MOST_FED) × IsOfPlan (ahead sending)
 
@@ -83,21 +81,21 @@ module _ {P : Type 0} where
   abbrev pub HasRoom : Sending P → Type 0
   HasRoom sending = (length sending.gathered.items < MOST_TOGETHER) × (length sending.gathered.items < vec_capacity sending.gathered)
 
-  -- nothing has changed but that gathered commands may have been sent
+  -- nothing has changed, except that gathered commands may have been sent
   abbrev pub IsSame : (has_taken : P → List (ℕ × LineFault) → Type 0) → (old new : Sending P) → Type 0
   IsSame has_taken old new = (ahead new ≡ ahead old) × (new.lines ≡ old.lines) × HasKept (has_taken old.report) (has_taken new.report)
 
--- of these items the commands were sent, in order, and the refusals taken by the attendant
+-- the commands of these items were sent, in order, and the attendant has taken their refused lines
 pub record HasPassedOn (given : List Item) (side : Sent) (refused : List (ℕ × LineFault) → Type 0) : Type 0 where
   pub sent : side.list ≡ all_sent (entries_of side.sender (commands given))
   pub told : refused (refusals given)
 
--- the text was fed, and all items that are known of it were passed on
+-- the text was fed to the reader of lines, and all items that it determines so far were passed on
 pub record IsReading (text : List ℕ) (lines : Waiting) (side : Sent) (refused : List (ℕ × LineFault) → Type 0) : Type 0 where
   pub stands : Stands lines text (items_so_far text)
   pub passed : HasPassedOn (items_so_far text) side refused
 
--- of these items the first were passed on
+-- a prefix of these items was passed on
 pub record HasBegun (all : List Item) (side : Sent) (refused : List (ℕ × LineFault) → Type 0) : Type 0 where
   pub given : List Item
   pub first : BeginsWith all given
@@ -109,11 +107,11 @@ pub record IsGiving (text : List ℕ) (lines : Waiting) (side : Sent) (refused :
   pub stands : Stands lines text given
   pub passed : HasPassedOn given side refused
 
--- the plan has these items next: all of their commands come first in what the sender may send
+-- these items are next in the plan: their commands are the first of those that the sender may still send
 abbrev pub HasInPlan : Sent → List Item → Type 0
 HasInPlan side all = ComeFirst (planned_of side.queue.plan side.sender) (commands all)
 
--- the items of a text are passed on, all of which that are known are in the plan
+-- the items of a text are passed on, and all items that it determines so far are in the plan
 abbrev pub KeepsPlan : (lines : Waiting) (side : Sent) (refused : List (ℕ × LineFault) → Type 0) → Type 0
 KeepsPlan lines side refused = (text : List ℕ) × IsGiving text lines side refused × HasInPlan side (known lines.phase text)
 
@@ -121,9 +119,9 @@ KeepsPlan lines side refused = (text : List ℕ) × IsGiving text lines side ref
 abbrev pub ReadsInPlan : (all : List ℕ → List Item) → (lines : Waiting) (side : Sent) (refused : List (ℕ × LineFault) → Type 0) → Type 0
 ReadsInPlan all lines side refused = (text : List ℕ) × IsReading text lines side refused × HasInPlan side (all text)
 
--- Of a feed that had these bytes left before and has these left now, so many reads delivered a text, each at
--- least a byte and at most a piece, and a whole one before the end where the feed fills each piece; and
--- all items that are known of it were passed on
+-- A feed had the bytes `before` left at first and has `now` left. `reads` reads delivered a text: each read at least a
+-- byte and at most a piece, and, where the feed fills each piece, a whole piece before the end. All items that the text
+-- determines so far were passed on.
 pub record IsFeeding (before now : Option (List ℕ)) (fills : Bool) (piece reads : ℕ) (lines : Waiting) (side : Sent) (refused : List (ℕ × LineFault) → Type 0) : Type 0 where
   pub text : List ℕ
   pub consumed : Consumes before now text
@@ -136,8 +134,8 @@ pub record IsFeeding (before now : Option (List ℕ)) (fills : Bool) (piece read
 abbrev pub IsCovered : Waiting → Sent → Type 0
 IsCovered lines side = length side.list + length lines.pending ≤ lines.fed
 
--- Of a feed that had these bytes left before and has these left now, at most so many commands were made, whose lines are a text;
--- and all items of the text were passed on, however it ends
+-- A feed had the bytes `before` left at first and has `now` left. It made at most `many` commands, whose lines are a
+-- text, and all items of the text were passed on, however it ends.
 pub record IsMaking (before now : Option (List ℕ)) (many : ℕ) (side : Sent) (refused : List (ℕ × LineFault) → Type 0) : Type 0 where
   pub text : List ℕ
   pub consumed : Consumes before now text
@@ -148,8 +146,8 @@ pub record IsMaking (before now : Option (List ℕ)) (many : ℕ) (side : Sent) 
 
 -- ---- what the steps of a thread have done
 
--- All that the reads of a feed gave is a text that ended so, by what the feed had left before and has left after
--- them; and all items that are known of it while it may continue were passed on
+-- The bytes that the reads of a feed gave, by what the feed had left before and has left after them, are a text with
+-- the ending `how`; and all items that the text determines while it may continue were passed on
 pub record HasReadText (before after : Option (List ℕ)) (fails fills : Bool) (piece reads : ℕ) (how : Ending) (lines : Waiting) (side : Sent) (refused : List (ℕ × LineFault) → Type 0) : Type 0 where
   pub text : List ℕ
   pub consumed : Consumes before after text
@@ -157,7 +155,7 @@ pub record HasReadText (before after : Option (List ℕ)) (fails fills : Bool) (
   pub ended : IsEnded before fails fills piece reads text how
   pub reading : IsReading text lines side refused
 
--- All was passed on of a text that ended so and is all that the reads gave
+-- All items were passed on of the text with the ending `how` that the reads gave
 pub record HasRead (before after : Option (List ℕ)) (fails fills : Bool) (piece reads : ℕ) (how : Ending) (side : Sent) (refused : List (ℕ × LineFault) → Type 0) : Type 0 where
   pub text : List ℕ
   pub consumed : Consumes before after text
@@ -165,7 +163,7 @@ pub record HasRead (before after : Option (List ℕ)) (fails fills : Bool) (piec
   pub ended : IsEnded before fails fills piece reads text how
   pub passed : HasPassedOn (items_by how text) side refused
 
--- The first items were passed on of a text that is all that the reads gave
+-- A prefix of the items was passed on of the text that the reads gave
 pub record IsPartRead (before after : Option (List ℕ)) (fails : Bool) (piece reads : ℕ) (side : Sent) (refused : List (ℕ × LineFault) → Type 0) : Type 0 where
   pub text : List ℕ
   pub consumed : Consumes before after text
@@ -174,8 +172,8 @@ pub record IsPartRead (before after : Option (List ℕ)) (fails : Bool) (piece r
   pub first : AreFirst before fails reads text given
   pub passed : HasPassedOn given side refused
 
--- The end and the report of a sender that has ended so, put these commands into the queue and sent
--- this in all
+-- The end and the report of a sender with the ending `how`, which put the commands `put` into the queue and sent `sent`
+-- in all
 pub record IsEndOf (side : Sent) (refused : List (ℕ × LineFault) → Type 0) (how : Ending) (put sent : List Taken) (end : Ended) (report : SenderReport) (told : List (ℕ × LineFault) → Type 0) : Type 0 where
   pub queue_is : end.queue ≡ side.queue
   pub sender_is : end.sender ≡ side.sender

@@ -27,7 +27,7 @@ use Rattle.cmd_dispatch.specs.Tellings.{IsTelling, IsToldBy, IsWithin, MayTell, 
 pub few_of_sender : (s : ℕ) (entries : List Entry) → length (of_sender s entries) ≤ length entries
 few_of_sender s entries = omega (arith, length-filter (λ (e : Entry). eqb e.sender s) entries, count_by-le-length (λ (e : Entry). eqb e.sender s) entries)
 
--- what some entries print begins what these and further ones print
+-- the lines of some entries are a prefix of the lines of these and further entries
 pub told_begins : (inv : Configuration) (clock : Option ℕ) (w : World) (es more : List Entry) → BeginsWith (told_text inv clock w (es ++ more)) (told_text inv clock w es)
 unfolding tellings
 told_begins inv clock w [] more = (told_text inv clock w more, refl)
@@ -43,11 +43,11 @@ told_begins inv clock w (x ∷ es) more =
 pub begins_more : {A : Type 0} (xs ys written : List A) → BeginsWith ys xs → BeginsWith xs written → BeginsWith ys written
 begins_more {A = A} xs ys written a b = (b.0 ++ a.0, a.1 ∙ ap (λ (l : List A). l ++ a.0) b.1 ∙ append_assoc written b.0 a.0)
 
--- a beginning of a list is a beginning of the list with one entry more
+-- a prefix of a list is a prefix of the list with one more entry
 pub first_more : (taken gone : List Entry) (e : Entry) → BeginsWith taken gone → BeginsWith (taken ++ e ∷ []) gone
 first_more taken gone e first = (first.0 ++ e ∷ [], ap (λ (l : List Entry). l ++ e ∷ []) first.1 ∙ append_assoc gone first.0 (e ∷ []))
 
--- more entries than the limit are more than the limit with one entry more
+-- more entries than the limit are more than the limit with one more entry
 within_more : (limit : ℕ) (c : RunCause) (taken : List Entry) (e : Entry) → IsWithin limit (Some c) taken → IsWithin limit (Some c) (taken ++ e ∷ [])
 within_more limit cause.BadOptions taken e within = tt
 within_more limit cause.Memory taken e within = tt
@@ -83,7 +83,7 @@ telling_next limit now_limit inv clock before taken e ledger waiting now same sm
     let within = is.within in
     record { sender = known; place = omega (arith, placed, own); small = omega (arith, placed, few, within, same, small) }
 
--- what waits may be printed
+-- the text that waits may be printed
 pub telling_ends : (limit : ℕ) (inv : Configuration) (clock : Option ℕ) (before : Option (List ℕ)) (taken : List Entry) (ledger : Ledger) (waiting : List ℕ) (now : Option (List ℕ)) (allows : List ℕ → Type 0) (of_feeds : List Entry → Type 0) → IsTelling limit inv clock before None taken ledger waiting now → of_feeds taken → MayTell allows of_feeds inv clock before → TextAllowed allows now waiting
 telling_ends limit inv clock before taken ledger waiting now allows of_feeds is sent (inl all) = λ had part known begins. all (had ++ part)
 telling_ends limit inv clock before taken ledger waiting now allows of_feeds is sent (inr run) = λ had part known begins.

@@ -1,4 +1,4 @@
--- A log that prints: what it holds of the entries that were taken.
+-- A log that prints, and what it holds after the entries that were taken.
 use Rattle.std.specs.Prelude.{◌≡◌, ◌<◌, ◌≤◌, ◌⊎◌, ℕ, List, [], ◌++◌, length, Option, Some, None}
 use Rattle.std.specs.Io.KnownBytes.{Appends}
 use Rattle.cmd_types.specs.declared.entry.Entry.{Entry}
@@ -12,29 +12,29 @@ use Rattle.cmd_run.specs.declared.fault.RunCause.{RunCause}
 use Rattle.cmd_run.specs.declared.fault.RunCause.TheVariants.{JournalFull, QueueLost, Output}
 use Rattle.cmd_dispatch.specs.Delivered.{BeginsWith}
 
--- a beginning of the text was appended, and nothing else
+-- a prefix of the text was appended, and nothing else
 pub record AppendsBeginning (old new : Option (List ℕ)) (text : List ℕ) : Type 0 where
   pub part : List ℕ
   pub begins : BeginsWith text part
   pub appended : Appends old new part
 
--- at any moment while this text is appended, what the output has is allowed
+-- at any moment while this text is appended, the text of the output is allowed
 abbrev pub TextAllowed : (allows : List ℕ → Type 0) → (told : Option (List ℕ)) → (text : List ℕ) → Type 0
 TextAllowed allows told text = (before part : List ℕ) → told ≡ Some before → BeginsWith text part → allows (before ++ part)
 
--- What an output allows, where not every text: a beginning of the lines that a journal prints which the feeds of the run may have
--- sent, behind what it had
+-- What an output allows, where it does not allow every text: after its old text, any prefix of the lines of a journal
+-- that the feeds of the run may have sent
 pub record AllowsTelling (allows : List ℕ → Type 0) (of_feeds : List Entry → Type 0) (inv : Configuration) (clock : Option ℕ) (told : Option (List ℕ)) : Type 0 where
   pub before : List ℕ
   pub known : told ≡ Some before
   pub text : (taken : List Entry) (part : List ℕ) → of_feeds taken → IsJournal taken → BeginsWith (told_text inv clock (initial inv) taken) part → allows (before ++ part)
 
--- every text is allowed, or these
+-- every text is allowed, or the texts above
 abbrev pub MayTell : (allows : List ℕ → Type 0) → (of_feeds : List Entry → Type 0) → (inv : Configuration) → (clock : Option ℕ) → (told : Option (List ℕ)) → Type 0
 MayTell allows of_feeds inv clock told = ((text : List ℕ) → allows text) ⊎ AllowsTelling allows of_feeds inv clock told
 
--- The output has the told lines of some first ones of these entries, of whole entries and nothing else; only where the
--- output failed may a part of the next told lines follow them
+-- The output has the told lines of a prefix of these entries, and nothing else; only where the output failed may a part
+-- of the next told lines follow them
 pub record HasToldPart (inv : Configuration) (clock : Option ℕ) (all : List Entry) (cause : RunCause) (before now : Option (List ℕ)) : Type 0 where
   pub told : List Entry
   pub first : BeginsWith all told
@@ -45,7 +45,8 @@ pub record HasToldPart (inv : Configuration) (clock : Option ℕ) (all : List En
 
 -- ---- of private contracts alone
 
--- what was told and what waits to be told are the told lines of what was taken; after a fault a beginning of them was told
+-- the printed text and the text that waits are the told lines of the taken entries; after a fault a prefix of these
+-- lines was printed
 abbrev pub IsToldBy : Option RunCause → Configuration → (clock : Option ℕ) → (taken : List Entry) → Ledger → (waiting written : List ℕ) → Type 0
 IsToldBy None inv clock taken ledger waiting written = HasApplied inv clock (initial inv) [] taken written waiting ledger
 IsToldBy (Some QueueLost) inv clock taken ledger waiting written = HasApplied inv clock (initial inv) [] taken written waiting ledger
@@ -56,13 +57,13 @@ abbrev pub IsPart : Option RunCause → List ℕ → Type 0
 IsPart (Some Output) part = Unit {0}
 IsPart fault part = part ≡ []
 
--- while nothing failed, no more entries were taken than the limit; where there was no room for one, more were
+-- while the run has not failed, at most `limit` entries were taken; where there was no room for one, more were taken
 abbrev pub IsWithin : (limit : ℕ) → Option RunCause → (taken : List Entry) → Type 0
 IsWithin limit None taken = length taken ≤ limit
 IsWithin limit (Some JournalFull) taken = limit < length taken
 IsWithin limit (Some cause) taken = Unit {0}
 
--- what a log that prints holds, by what its output had before and has now
+-- the contents of a log that prints, by the text of its output before and now
 pub record IsTelling (limit : ℕ) (inv : Configuration) (clock : Option ℕ) (before : Option (List ℕ)) (fault : Option RunCause) (taken : List Entry) (ledger : Ledger) (waiting : List ℕ) (now : Option (List ℕ)) : Type 0 where
   pub written : List ℕ
   pub appended : Appends before now written

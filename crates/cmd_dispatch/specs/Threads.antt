@@ -21,7 +21,7 @@ module _ {F : Type 0} where
   ArePlannedBy remaining sides feeds = (k : ℕ) (s : Sent) (f : F) → k < length feeds → IsPlannedBy (remaining (slice_index_or feeds k f)) (slice_index_or sides k s)
 
 module _ {F P : Type 0} where
-  -- the promise of a thread is that of this side and this feed, which is read so
+  -- the promise of a thread is that of this side and this feed, read with these limits
   abbrev pub HasPromised : Reading → PromisedHandle (Ended × P × F) (Promised F) → Sent → F → Type 0
   HasPromised reading h side feed = (h.promise.side.value ≡ side) × (h.promise.feed.value ≡ feed) × (h.promise.reading ≡ reading)
 
@@ -31,14 +31,14 @@ module _ {F P : Type 0} where
       (k : ℕ) (h : PromisedHandle (Ended × P × F) (Promised F)) (s : Sent) (f : F) → k < length handles
       → HasPromised reading (slice_index_or handles k h) (slice_index_or sides k s) (slice_index_or feeds k f)
 
-  -- threads were started in order, for all feeds where it says so
+  -- threads were started in order, for all feeds where `all` is true
   pub record HaveStarted (sides : List Sent) (feeds : List F) (reading : Reading) (handles : List (PromisedHandle (Ended × P × F) (Promised F))) (all : Bool) : Type 0 where
     pub few : length handles ≤ length feeds
     pub all_are : all ≡ true → length handles ≡ length feeds
     pub not_all : all ≡ false → length handles < length feeds
     pub promised : HavePromised sides feeds reading handles
 
-  -- while threads are started: those of the first sides, feeds and reports were
+  -- while threads are started: the threads of a prefix of the sides, feeds and reports were started
   pub record AreStarting (sides : List Sent) (feeds : List F) (reports : List P) (reading : Reading) (left_sides : List Sent) (left_feeds : List F) (left_reports : List P) (handles : List (PromisedHandle (Ended × P × F) (Promised F))) : Type 0 where
     pub gone : List Sent
     pub done : List F

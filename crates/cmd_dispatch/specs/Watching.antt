@@ -10,7 +10,7 @@ use Rattle.cmd_dispatch.specs.Delivered.{BeginsWith}
 abbrev pub IsLastWanting : (List Entry → Type 0) → (journal : List Entry) → Type 0
 IsLastWanting shows journal = shows journal ⊎ ((published : List Entry) × (last : Entry) × shows published × (journal ≡ published ++ last ∷ []))
 
--- what is published once a run failed by this, or by nothing
+-- the published list after a run that failed by this cause, or did not fail
 abbrev pub IsShown : (List Entry → Type 0) → Option RunCause → (journal : List Entry) → Type 0
 IsShown shows (Some Memory) journal = IsLastWanting shows journal
 IsShown shows _ journal = shows journal
@@ -21,10 +21,10 @@ IsBehind cause journal published = IsShown (λ list. published ≡ list) (Some c
 
 -- ---- of private contracts alone
 
--- the board of a run that has none
+-- the table that stands for a run without a board
 abbrev pub no_board : TableId
 no_board = record { words = 0; slots = 0; views_name = 0; atom = 0; block = 0; offset = 0; slot_names = [] }
 
--- a list was published of which this one is a continuation
+-- a prefix of this list was published
 abbrev pub MayShow : (List Entry → Type 0) → List Entry → Type 0
 MayShow shows list = (was : List Entry) × shows was × BeginsWith list was

@@ -1,5 +1,5 @@
 //! The attendant of a feed that is followed: it takes the refused lines of the feed, makes commands wait, and takes the
-//! ending. Only `refuse` changes the refused lines that it has taken.
+//! feed's ending. Only `refuse` changes the refused lines that it has taken.
 ghost use Rattle.std.specs.Prelude.{◌++◌, [], ◌∷◌, ℕ, List, OnOk, OnErr};
 ghost use Rattle.cmd_lines.specs.declared.fault.LineFault.{LineFault};
 
@@ -41,8 +41,8 @@ pub trait Attendant: Send + Drop {
     /// refused lines taken are unchanged.
     ///
     /// # Errors
-    /// The command is not to be sent. The sender stops before it, as where memory runs out; but a feed that makes its
-    /// commands sends it all the same.
+    /// The command is not to be sent. The sender stops before this command, as if memory ran out; but the sender of a
+    /// feed that makes its commands sends it all the same.
     fn wait_for(&mut self, time: u64, line: u64) -> Result<(), Memory>
         ensures kept { (refused : List (ℕ × LineFault)) → has_taken self.old refused → has_taken self.new refused };
 

@@ -118,9 +118,9 @@ fn put<W: Said>(word: &BoardWord, place: &mut Place, found: u64, _journal: &Jour
     word.shared.store::<Publishes<W>>(place, 0, found);
 }
 
-/// Stores the word of the monitor's figures on the board. `journal` is read by the proof alone: its entries are what
-/// readers then count as published. Requires that the monitor holds what the journal means, and that the list published
-/// last is a prefix of the journal.
+/// Stores the word of the monitor's figures on the board. `journal` is read by the proof alone: its entries are then
+/// the published list. Requires that the monitor holds what the journal means, and that the list published last is a
+/// prefix of the journal.
 pub(crate) fn store_figures(
     word: &BoardWord,
     place: &mut Place,

@@ -21,7 +21,7 @@ impl Log for Counting {
     ghost use Rattle.cmd_dispatch.specs.Dispatches.{IsJournaling};
     ghost use Rattle.cmd_dispatch.specs.JournalLaws.{counting_small, journaling_more, journaling_lost};
 
-    // Some journal, which nobody keeps, holds what was taken.
+    // Some journal, which nobody keeps, holds the taken entries.
     ghost holds = { λ start now fault taken. (now.limit ≡ start.log.limit) × (journal : Contents) × IsJournaling start.log.monitor.inventory start.log.limit (λ _. Unit {0}) fault taken journal now.monitor };
 
     ghost may_note = { λ now _. now.limit ≤ GREATEST_LIMIT };

@@ -17,9 +17,9 @@ use cmd_run::Ending;
 use cmd_types::Stamped;
 use std::sync::Wait;
 
-/// Sends a command that the feed made. Where the command must wait, blocks the sender's thread first; however the wait
-/// ends the command is sent, since it stands in no text from which a later run could read it. Returns whether the queue
-/// took the command; where it did not, `side` is unchanged.
+/// Sends a command that the feed made. Where the command must wait, blocks the sender's thread first. The command is
+/// sent however the wait ends, since no later run could read it from a text. Returns whether the queue took the
+/// command; where it did not, `side` is unchanged.
 fn send_one<P: Reporter, W: Wait>(
     rt: &W,
     side: &mut SenderSide,
@@ -33,7 +33,7 @@ fn send_one<P: Reporter, W: Wait>(
 {
     let time = command.time();
     if report.must_wait(time) {
-        // The feed has no line but those of its commands, so the place of a command is the number of its line.
+        // Each line of the feed is a command, so the place of a command is the number of its line.
         report.wait_for(time, side.sent() + 1).ok();
     }
     side.submit(rt, command).is_ok()

@@ -31,8 +31,8 @@ pub(crate) trait Reporter: Send + Drop {
         ensures kept { (refused : List (ℕ × LineFault)) → has_taken self.old refused → has_taken self.new refused };
 
     /// Blocks the sender's thread until a command of `time`, in seconds, may be sent, or until the run has failed.
-    /// `line` is the number of the command's line, from 1. The refused lines taken are unchanged. Fails where the command
-    /// of a text is not to be sent.
+    /// `line` is the number of the command's line, from 1. The refused lines taken are unchanged. Fails where a command
+    /// that was read from a text is not to be sent.
     fn wait_for(&mut self, time: u64, line: u64) -> Result<(), Memory>
         ensures kept { (refused : List (ℕ × LineFault)) → has_taken self.old refused → has_taken self.new refused };
 

@@ -44,7 +44,7 @@ pub(crate) struct Sending<P: Reporter> {
     report: P,
 }
 
-/// Ends the text of `lines`: as one that broke off after `ReadFailed` and `TooManyReads`, else as a whole text.
+/// Ends the text of `lines`: as a text that broke off for `ReadFailed` and `TooManyReads`, else as a whole text.
 fn end_text(lines: &mut Lines, how: Ending)
     requires { lines.old.phase ≡ Open }
     ensures stands { (f : List ℕ) (g : List Item) → Stands lines.old f g → Stands lines.new f g }
@@ -96,8 +96,8 @@ impl<P: Reporter> Sending<P> {
         Ok(())
     }
 
-    /// Where the last gathered command has to wait, sends the commands before it and waits. After an error, also of a
-    /// wait after which it is not to be sent, only this command is dropped.
+    /// Where the last gathered command has to wait, sends the commands before it and waits. After an error, which may
+    /// be that of the wait, only the command that had to wait is dropped.
     fn hold_back<W: Wait>(&mut self, rt: &W, alloc: Global) -> Result<(), SenderStop>
         requires within { IsWithin self.old }
         ensures same { OnOk result (IsSame P.has_taken self.old self.new) }
@@ -340,9 +340,9 @@ pub(crate) fn send_mark<P: Reporter, W: Wait>(
     }
 }
 
-/// Sends the commands of a feed, which it reads or has make them, and then the close mark; returns the sender's end, the
-/// report and the feed. If memory runs out, sends the gathered commands and the mark at once, with the ending `Memory`.
-/// Where the queue refuses, sends no mark.
+/// Sends the commands that a feed's text spells, or that the feed makes, and then the close mark; returns the sender's
+/// end, the report and the feed. If memory runs out, sends the gathered commands and the mark at once, with the ending
+/// `Memory`. Where the queue refuses, sends no mark.
 pub(crate) fn send_all<F: Feed, P: Reporter, W: Wait>(
     rt: &W,
     alloc: Global,

@@ -1,5 +1,5 @@
-//! The reasons why a sender stops before it has passed on all of its feed: memory runs out, or its attendant holds a
-//! command back for good, which counts as that; or the queue refuses.
+//! The reasons why a sender stops before it has passed on all of its feed: memory runs out, or the queue refuses. An
+//! attendant that holds a command back for good counts as out of memory.
 use cmd_types::Memory;
 use std::alloc::AllocFailed;
 

@@ -24,8 +24,8 @@ pub trait Teller {
     // All bytes that it has taken so far, where they are known.
     ghost told: { Self → Option (List ℕ) };
 
-    // The texts that its user allows it to have taken. `tell` requires that it takes no other, at any moment: so a run
-    // that never returns keeps its promise too.
+    // The texts that the teller may have taken. `tell` requires that at any moment its text is one of these, so that a
+    // run that never returns keeps its promise too.
     ghost allows: { List ℕ → Type 0 };
 
     // A teller of this type has not taken a text whole. A run can know this from `tell` alone.

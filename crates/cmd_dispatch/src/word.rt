@@ -10,7 +10,7 @@ pub(crate) fn word_of(figures: Figures) -> u64
     requires { IsSmall figures }
     ensures { result ≡ word figures }
 {
-    // 12 bits for each count up to MOST_OBJECTS, the others for GREATEST_LIMIT: `IsSmall`; `store_figures` has to show it.
+    // 12 bits for each count up to MOST_OBJECTS, the rest for GREATEST_LIMIT: `IsSmall`, which `store_figures` proves.
     u64::from(figures.entries) << 36
         | (u64::from(figures.problems) << 24
             | (u64::from(figures.acknowledged) << 12 | u64::from(figures.in_downtime)))

@@ -1,4 +1,4 @@
--- The lines of a run that follows feeds are known, and say what they were printed for.
+-- The lines of a run that follows feeds are known, and say for which event they were printed.
 use Rattle.std.proofs.Common.{◌≡◌, ℕ, ◌≤◌, Bool, true, false, List, [], ◌∷◌, ◌++◌, Some, None, refl, sym, ap, ◌∙◌, arith, append_assoc, codes}
 use Rattle.std.specs.Fmt.{decimal}
 use Rattle.cmd_types.specs.declared.limits.TheConstants.{GREATEST_NUMBER}
@@ -67,7 +67,7 @@ module _ (laws : Laws) (a b c : ℕ) (h : a ≤ GREATEST_NUMBER) (k : b ≤ GREA
       )
 
 module _ (laws : Laws) (feed : ℕ) (h : feed ≤ GREATEST_NUMBER) where
-  -- a line on a feed: `rest` stands behind its number, and has no number
+  -- a line on a feed: `rest` follows its number, and has no number
   of_feed_known : (k : LineKind) (rest : List ℕ) (known : KnownLine) → is_other rest ≡ true → form_behind true rest ≡ rest → numbers_behind (Some feed) rest ≡ feed ∷ [] → form_of k ≡ codes "gateway: feed 0" ++ rest → line_of k (feed ∷ []) ≡ Some known → IsKnownAs (codes "gateway: feed " ++ (decimal feed ++ (rest ++ 10 ∷ []))) known
   unfolding form_behind numbers_behind
   of_feed_known k rest known other form_is numbers_are is said = (

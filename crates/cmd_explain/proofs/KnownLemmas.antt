@@ -1,4 +1,4 @@
--- What makes a line known: its form and its numbers, none of which is greater than a command may have.
+-- A line is known by its form and its numbers, none of which is greater than a command may have.
 use Rattle.std.proofs.Common.{◌≡◌, ℕ, ◌≤◌, true, List, [], ◌∷◌, Option, None, refl, arith}
 use Rattle.std.proofs.lemmas.Bool.{le-leb}
 use Rattle.cmd_types.specs.declared.limits.TheConstants.{GREATEST_NUMBER}

@@ -1,4 +1,4 @@
--- The lines that the program prints are known, and say what they were printed for.
+-- The lines that the program prints are known, and say for which event they were printed.
 use Rattle.std.proofs.Common.{◌≡◌, ℕ, ◌<◌, ◌≤◌, true, false, List, [], ◌∷◌, ◌++◌, Some, None, refl, sym, ap, ◌∙◌, arith, append_assoc, codes}
 use Rattle.std.specs.Prelude.{option_map}
 use Rattle.std.specs.Fmt.{decimal}
@@ -174,7 +174,7 @@ module _ (laws : Laws) (cause feed : ℕ) (small : cause ≤ GREATEST_NUMBER) (l
 -- ---- a feed, a refused line and a rejected command
 
 module _ (laws : Laws) (a b : ℕ) (h : a ≤ GREATEST_NUMBER) (k : b ≤ GREATEST_NUMBER) where
-  -- two numbers behind one another, and what follows
+  -- two numbers one after another, and the rest
   form_of_two : (rest : List ℕ) → form_behind false (decimal a ++ (codes ";" ++ (decimal b ++ rest))) ≡ codes "0;0" ++ form_behind true rest
   unfolding form_behind
   form_of_two rest = form_number laws a _ h ∙ ap (λ (t : List ℕ). codes "0;" ++ t) (form_number laws b rest k)

@@ -1,4 +1,4 @@
--- The lemmas of words for lines.
+-- Lemmas on lines and their meanings, a file a subject.
 pub mod PartLemmas
 pub mod TextLemmas
 pub mod LineLemmas

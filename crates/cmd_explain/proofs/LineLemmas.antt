@@ -12,7 +12,7 @@ before_others : (line : List ℕ) (lines : List (List ℕ)) (n : ℕ) → length
 before_others line [] n e = absurd (omega (arith, e))
 before_others line (next ∷ others) n e = refl
 
--- a line before those of a text
+-- a line put before the lines of a text
 pub before_text : (line text : List ℕ) → whole_lines (line ∷ split_lines text) ≡ line ∷ whole_lines (split_lines text)
 unfolding split_lines
 before_text line text = before_others line (slice_split (λ b. b == 10) text) _ (length-slice_split (λ b. b == 10) text)
@@ -21,12 +21,12 @@ before_text line text = before_others line (slice_split (λ b. b == 10) text) _ 
 last_line : (line : List ℕ) → (length line == 0) ≡ false → whole_lines (line ∷ []) ≡ line ∷ []
 last_line line some = rw some
 
--- one that is not empty
+-- a line that is not empty
 pub some_line : (line : List ℕ) (old left : Option (List ℕ)) → lines_left old ≡ line ∷ lines_left left → (length line == 0) ≡ false → whole_lines (lines_left old) ≡ line ∷ whole_lines (lines_left left)
 some_line line old None is some = ap whole_lines is ∙ last_line line some
 some_line line old (Some text) is some = ap whole_lines is ∙ before_text line text
 
--- one that is not the last
+-- a line that is not the last
 pub inner_line : (line : List ℕ) (old left : Option (List ℕ)) (rest : Option (Bor (List ℕ))) → lines_left old ≡ line ∷ lines_left left → option_copied rest ≡ left → is_some rest ≡ true → whole_lines (lines_left old) ≡ line ∷ whole_lines (lines_left left)
 inner_line line old left None is same e = absurd cc
 inner_line line old left (Some r) is same e = ap whole_lines is ∙ ap (λ (o : Option (List ℕ)). whole_lines (line ∷ lines_left o)) (sym same) ∙ before_text line r.now ∙ ap (λ (o : Option (List ℕ)). line ∷ whole_lines (lines_left o)) same

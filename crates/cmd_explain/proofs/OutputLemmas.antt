@@ -1,4 +1,4 @@
--- No meaning has a line feed, so the lines of what is printed are those that are shown.
+-- No meaning has a line feed, so the lines of the printed text are the shown lines.
 use Rattle.std.proofs.Common.{◌≡◌, ◌≢◌, ℕ, zero, suc, ◌+◌, ◌/◌, ◌%◌, ◌==◌, Bool, true, false, not, List, [], ◌∷◌, ◌++◌, length, Option, Some, None, nat_lt, if◌then◌else◌, refl, ap, ◌∙◌, arith, append_assoc, codes, nat_eq}
 use Rattle.std.specs.List.{list_any}
 use Rattle.std.specs.Fmt.{decimal, digits, digits_onto, digit_glyph}

@@ -80,7 +80,7 @@ great_step n b text great on = by (is_ascii_digit b) refl
     by true is = rw is on
     by false is = rw is (great_first n (numbers_behind None text) great)
 
--- the digits behind one make it no smaller
+-- a number that is too great stays too great with further digits
 great_on : (n : ℕ) (text : List ℕ) → GREATEST_NUMBER < n → are_small (numbers_behind (Some n) text) ≡ false
 unfolding numbers_behind
 great_on n [] great = great_first n [] great

@@ -1,4 +1,4 @@
--- What the mode `explain` explains, prints and answers.
+-- The text that the mode `explain` explains, the text that it prints, and its status.
 use Rattle.std.specs.Prelude.{◌≡◌, ◌==◌, ℕ, if◌then◌else◌, List, [], ◌∷◌, ◌++◌, length, Option, Some}
 use Rattle.std.specs.List.{flat_map}
 use Rattle.cmd_answer.specs.declared.stop.FilesStop.{FilesStop}
@@ -7,7 +7,7 @@ use Rattle.cmd_answer.specs.declared.stop.Stop.TheVariants as stop
 use Rattle.cmd_answer.specs.Stops.{files_stop_line}
 use Rattle.cmd_explain.specs.Explained.{explained, is_all_known}
 
--- the text of words; an empty line where that has no byte
+-- the text of words; an empty line where the text has no byte
 abbrev pub or_line : (text : List ℕ) → List ℕ
 or_line text = if length text == 0 then 10 ∷ [] else text
 
@@ -31,6 +31,6 @@ StopsExplain words (Other stop.Memory) = Unit {0}
 StopsExplain [] (Other stop.Input) = Unit {0}
 StopsExplain words _ = ⊥
 
--- the line of a stop, and behind it its meaning
+-- the line of a stop, followed by its meaning
 abbrev pub stop_in_words : FilesStop → List ℕ
 stop_in_words s = explained (files_stop_line s)

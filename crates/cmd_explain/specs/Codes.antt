@@ -34,23 +34,23 @@ state_cause number = find (λ c. of_state.cause_number c == number) STATE_CAUSES
 unfoldable pub reason_of : (number : ℕ) → Option Reason
 reason_of number = find (λ r. reason_number r == number) REASONS
 
--- the cause of a failed run that has this number and this feed, 0 where no feed belongs to it
+-- the cause of a failed run with this number and this feed; the feed is 0 for a cause without a feed
 unfoldable pub cause_of_feed : (number feed : ℕ) → Option RunCause
 cause_of_feed number feed =
     find (λ c. (of_run.cause_number c == number) && (of_run.cause_sender c == feed))
     (run.BadOptions ∷ run.Memory ∷ run.Spawn feed ∷ run.JournalFull ∷ run.QueueLost ∷ run.SenderStopped feed ∷ run.Output ∷ [])
 
--- the same, of a feed that a run may have
+-- the same, where a run may have a feed of this number
 unfoldable pub run_cause : (number feed : ℕ) → Option RunCause
 run_cause number feed = if nat_lt feed MOST_SENDERS then cause_of_feed number feed else None
 
--- the fault of a refused line that has this number and this argument, 0 where no argument is at fault
+-- the fault of a refused line with this number and this argument; the argument is 0 for a fault without an argument
 unfoldable pub fault_of_argument : (number argument : ℕ) → Option LineFault
 fault_of_argument number argument =
     find (λ f. (fault_number f == number) && (fault_argument f == argument))
     (fault.TooLong ∷ fault.Torn ∷ fault.NoBracket ∷ fault.BadTime ∷ fault.NoSpace ∷ fault.UnknownCommand
     ∷ fault.Missing argument ∷ fault.EmptyName argument ∷ fault.BadNumber argument ∷ fault.Memory ∷ [])
 
--- the same, of the number of an argument that fits a byte
+-- the same, where the number of the argument fits a byte
 unfoldable pub line_fault : (number argument : ℕ) → Option LineFault
 line_fault number argument = if nat_lt argument 256 then fault_of_argument number argument else None

@@ -35,7 +35,7 @@ known_by_form line = if are_small (numbers line) then option_and_then (λ kind. 
 unfoldable pub known_line : (line : List ℕ) → Option KnownLine
 known_line line = option_or (line_by_path line) (known_by_form line)
 
--- what a line of a text says, whose carriage returns at the end do not count
+-- what a line of a text says; carriage returns at its end do not count
 abbrev pub known_by_line : (line : List ℕ) → Option KnownLine
 known_by_line line = known_line (without_returns line)
 

@@ -1,4 +1,4 @@
--- Which line of the program a line is, by its form and its numbers.
+-- The kind and the numbers of a line that the program prints, by the line's form.
 use Rattle.std.specs.Prelude.{ℕ, List, [], ◌∷◌, ◌++◌, Option, Some, None, option_map, codes}
 use Rattle.std.specs.List.{find}
 use Rattle.std.specs.Str.{bytes_eq}
@@ -57,9 +57,10 @@ form_of (kind.Feed ending) = feed_form ending
 unfoldable pub kind_of : (form : List ℕ) → Option LineKind
 kind_of form = find (λ k. bytes_eq (form_of k) form) KINDS
 
--- ---- what is said
+-- ---- what a line says
 
--- what a line of a kind says with these numbers, where they are as many as its form has and each is that of a cause
+-- what a line of a kind says with these numbers; none where their count differs from that in the form, or a number
+-- stands for no cause, fault or reason
 unfoldable pub line_of : LineKind → (numbers : List ℕ) → Option KnownLine
 line_of kind.Usage [] = Some Usage
 line_of kind.Input [] = Some Input

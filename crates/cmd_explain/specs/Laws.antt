@@ -1,4 +1,4 @@
--- That every line which the program prints is known, and that explaining loses nothing.
+-- The laws that every line that the program prints is known, and that explaining loses nothing.
 use Rattle.std.specs.Prelude.{◌≡◌, ◌<◌, ◌≤◌, ℕ, false, List, [], ◌∷◌, ◌++◌, Some, codes}
 use Rattle.cmd_types.specs.declared.entry.TheConstants.{MOST_SENDERS}
 use Rattle.cmd_types.specs.declared.limits.TheConstants.{GREATEST_NUMBER}
@@ -47,9 +47,9 @@ pub record FindsAll : Type 0 where
 abbrev pub IsKnownAs : (text : List ℕ) → KnownLine → Type 0
 IsKnownAs text known = (line : List ℕ) × (text ≡ line ++ 10 ∷ []) × (known_line line ≡ Some known)
 
--- Each line that the program prints on its end, a run, a feed, a refused line and a rejected command is known, and so is
--- each line of a run that follows feeds. What the line says is the event for which it was printed. Its
--- numbers are at most the greatest that a command may have
+-- Each line that the program prints on its end, a run, a feed, a refused line and a rejected command is known, and so
+-- is each line of a run that follows feeds. The line says for which event it was printed. The numbers in it are at most
+-- the greatest number that a command may have
 pub record KnowsAll : Type 0 where
   pub usage : IsKnownAs (stop_line stop.Usage) Usage
   pub input : IsKnownAs (stop_line stop.Input) Input

@@ -7,7 +7,7 @@ use Rattle.cmd_explain.specs.declared.pieces.Piece.{Piece}
 use Rattle.cmd_explain.specs.declared.pieces.Piece.TheVariants as code
 use Rattle.cmd_explain.specs.Words.{inventory_words, journal_words, state_line_words, state_words, run_words, absence_words, ending_words, fault_words, reason_words}
 
--- the meaning of what a line says, in pieces
+-- the meaning of a line, in pieces
 abbrev pub pieces_of : KnownLine → List (List ℕ)
 pieces_of Usage = codes "the words ask for nothing that the program does, or a value is out of its range" ∷ []
 pieces_of Input = codes "the input could not be read to its end" ∷ []
@@ -39,12 +39,12 @@ pieces_of (Refused feed line fault) = codes "line " ∷ decimal line ∷ codes "
 pieces_of (Rejected feed place reason) = codes "command " ∷ decimal place ∷ codes " of feed " ∷ decimal feed ∷ codes " had no effect: " ∷ reason_words reason ∷ []
 pieces_of (Feed feed accepted ending) = codes "commands that feed " ∷ decimal feed ∷ codes " gave: " ∷ decimal accepted ∷ codes "; " ∷ ending_words ending ∷ []
 
--- pieces of a text, one after another
+-- the text of these pieces, one after another
 abbrev pub together : List (List ℕ) → List ℕ
 together [] = []
 together (piece ∷ pieces) = piece ++ together pieces
 
--- the meaning of what a line says
+-- the meaning of a line
 abbrev pub meaning : KnownLine → List ℕ
 meaning known = together (pieces_of known)
 

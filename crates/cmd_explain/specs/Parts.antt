@@ -16,7 +16,7 @@ form_behind inside (b ∷ text) = if is_ascii_digit b then zero_before inside ++
 abbrev pub form : (line : List ℕ) → List ℕ
 form line = form_behind false line
 
--- the number of the digits before, if there are any, followed by this digit
+-- the number that the digits before, if there are any, and this digit spell
 abbrev pub number_on : (before : Option ℕ) → (digit : ℕ) → ℕ
 number_on None digit = digit
 number_on (Some n) digit = n * 10 + digit
@@ -26,7 +26,7 @@ abbrev pub number_before : Option ℕ → List ℕ
 number_before None = []
 number_before (Some n) = n ∷ []
 
--- the numbers of a text, in order; `before`: the number of the digits just before the text, if there are any
+-- the numbers of a text, in order; `before`: the number that the digits just before the text spell, if there are any
 unfoldable pub numbers_behind : (before : Option ℕ) → List ℕ → List ℕ
 numbers_behind before [] = number_before before
 numbers_behind before (b ∷ text) = if is_ascii_digit b then numbers_behind (Some (number_on before (b - 48))) text else number_before before ++ numbers_behind None text
@@ -34,6 +34,6 @@ numbers_behind before (b ∷ text) = if is_ascii_digit b then numbers_behind (So
 abbrev pub numbers : (line : List ℕ) → List ℕ
 numbers line = numbers_behind None line
 
--- no number is greater than a command may have
+-- no number is greater than the greatest that a command may have
 abbrev pub are_small : List ℕ → Bool
 are_small ns = list_all (λ n. nat_le n GREATEST_NUMBER) ns

@@ -20,7 +20,7 @@ use Rattle.cmd_lines.specs.declared.fault.LineFault.TheVariants as fault
 
 -- the cause of a fault in a line of an inventory; the words follow those for the line
 abbrev pub inventory_words : Cause → List ℕ
-inventory_words inventory.BadForm = codes " has none of the forms contact;NAME;HOSTOPTS;SVCOPTS, host;NAME;MAX;INTERVAL;OPTS;CONTACTS, service;HOST;DESC;MAX;INTERVAL;OPTS;CONTACTS, escalation;HOST;DESC or empty;FIRST;LAST;INTERVAL;OPTS;CONTACTS and option;passive_host_checks_are_soft;VALUE (look at the first word and the number of fields), or an empty name, an empty item in a list or a comma in a contact's name"
+inventory_words inventory.BadForm = codes " has none of the forms contact;NAME;HOSTOPTS;SVCOPTS, host;NAME;MAX;INTERVAL;OPTS;CONTACTS, service;HOST;DESC;MAX;INTERVAL;OPTS;CONTACTS, escalation;HOST;DESC or empty;FIRST;LAST;INTERVAL;OPTS;CONTACTS, option;NAME;VALUE, settle;SECONDS, delay;HOST;DESC or empty;SECONDS and volatile;HOST;DESC (look at the first word and the number of fields; an option's NAME is passive_host_checks_are_soft or tell_by_clock), or an empty name, an empty item in a list or a comma in a contact's name"
 inventory_words inventory.BadNumber = codes " has a field that is no number, or none that may stand there"
 inventory_words inventory.BadOption = codes " has a letter that this kind of line does not allow"
 inventory_words inventory.Duplicate = codes " defines again what a line before it defines"

@@ -1,5 +1,5 @@
-//! Finds a cause, fault or reason by the number that the program prints for it. A law says that each of them is found
-//! by its number (`laws`), so none can be missing here.
+//! Finds a cause, fault or reason by the number that the program prints for it. A law in `laws` says that each of them
+//! is found by its number, so none can be missing here.
 ghost use Rattle.std.specs.Prelude.{◌≡◌};
 ghost use Rattle.cmd_explain.specs.Codes.{inventory_cause, journal_cause, state_cause, reason_of, cause_of_feed, run_cause, fault_of_argument, line_fault};
 
@@ -156,8 +156,8 @@ fn fault_of_argument(number: u64, argument: u8) -> Option<LineFault>
         && fault.argument() == argument)
 }
 
-/// The fault of a refused line, by its number and its argument; `None` where no fault has both, as for an argument of
-/// 256 or more. The argument is 0 for a fault without an argument.
+/// The fault of a refused line, by its number and its argument; `None` where no fault has both, for example for an
+/// argument of 256 or more. The argument is 0 for a fault without an argument.
 #[tactic(auto, unfolding(crate::specs::Codes::line_fault))]
 pub fn line_fault(number: u64, argument: u64) -> Option<LineFault>
     ensures { result ≡ line_fault number argument }

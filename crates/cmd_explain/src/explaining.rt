@@ -10,7 +10,7 @@ use crate::parts::parts_of;
 use cmd_types::{Memory, TextLines, without_returns};
 use std::alloc::Global;
 
-/// What a line that names a file says: any bytes may be its path. `None` for any other line.
+/// What a line that names a file says, where the path may be any bytes; `None` for any other line.
 fn line_by_path(line: &[u8]) -> Option<KnownLine>
     ensures { result ≡ line_by_path line.now }
 {
@@ -29,7 +29,7 @@ fn line_by_path(line: &[u8]) -> Option<KnownLine>
     }
 }
 
-/// What a line that the program prints says; `None` for any other line. `line` is without its line feed (profile).
+/// Returns what a line that the program prints says; `None` for any other line. `line` has no line feed (profile).
 ///
 /// # Errors
 /// Out of memory.
@@ -55,8 +55,8 @@ pub fn known_line(alloc: Global, line: &[u8]) -> Result<Option<KnownLine>, Memor
     }
 }
 
-/// Appends the line; where it is known without the carriage returns at its end, also appends a line of four blanks and
-/// its meaning. Returns whether it is known. If memory runs out, a part of these lines is in `out`.
+/// Appends the line; if it is known, also a line of four blanks and its meaning. Carriage returns at the end of the
+/// line do not count. Returns whether the line is known. If memory runs out, a part of these lines is in `out`.
 fn put_explained(alloc: Global, out: &mut Vec<u8>, line: &[u8]) -> Result<bool, Memory>
     ensures { IfOk result (λ known. (known ≡ is_known line.now) × (out.new.items ≡ out.old.items ++ ended (shown_lines (line.now ∷ [])))) }
 {

@@ -120,7 +120,7 @@ fn ended_form(ending: Ending) -> &'static [u8]
     }
 }
 
-/// The form of the line `feed;..`, which stands after a report, with this ending.
+/// The form of the line `feed;..`, which follows a report, with this ending.
 fn feed_form(ending: Ending) -> &'static [u8]
     ensures { result.now ≡ feed_form ending }
 {

@@ -1,4 +1,4 @@
-//! What a line that the program prints says: the kind of the line with its numbers.
+//! A line that the program prints as a value: the kind of the line, with its numbers.
 ghost use Rattle.std.specs.Prelude.{◌≡◌};
 ghost use Rattle.cmd_explain.specs.KnownLines.{line_of};
 
@@ -25,7 +25,7 @@ use mon_state::StateCause;
 /// ```
 #[derive(Clone, Copy, Debug, PartialEq, Eq)]
 pub enum KnownLine {
-    /// The program's arguments name no mode of it, or a value is out of its range.
+    /// The program's arguments name no mode, or a value is out of its range.
     Usage,
     /// The input could not be read to its end.
     Input,
@@ -39,12 +39,12 @@ pub enum KnownLine {
     Output,
     /// A file cannot be opened, or the inventory cannot be read to its end.
     Open,
-    /// A line of the inventory is at fault.
+    /// A line of the inventory is faulty.
     Inventory {
         line: u64,
         cause: Cause,
     },
-    /// A line of the journal is at fault.
+    /// A line of the journal is faulty.
     Journal {
         line: u64,
         cause: ReadCause,
@@ -57,17 +57,17 @@ pub enum KnownLine {
     State {
         word: StateWord,
     },
-    /// A line of the file `state` after its inventory is at fault.
+    /// A line of the file `state` after its inventory is faulty.
     StateLine {
         line: u64,
         cause: StateCause,
     },
-    /// A line of the inventory in the file `state` is at fault.
+    /// A line of the inventory in the file `state` is faulty.
     StateInventory {
         line: u64,
         cause: Cause,
     },
-    /// A line of the last segment of the journal is at fault.
+    /// A line of the last segment of the journal is faulty.
     StateJournal {
         line: u64,
         cause: ReadCause,
@@ -97,7 +97,7 @@ pub enum KnownLine {
         feed: u64,
         ending: Ending,
     },
-    /// The system's clock has moved further than the time that passed.
+    /// The system's clock has moved forward by more than the time that passed.
     ClockAhead {
         seconds: u64,
     },
@@ -110,12 +110,12 @@ pub enum KnownLine {
         hosts: u64,
         services: u64,
     },
-    /// A line of a new inventory is at fault, and the inventory was not taken.
+    /// A line of a new inventory is faulty, and the inventory was not taken.
     InventoryRefused {
         line: u64,
         cause: Cause,
     },
-    /// The file `told.SEGMENT` of a place is not there, so that told lines begin at the first later segment.
+    /// The file `told.SEGMENT` of a place is missing, so told lines begin at the first later segment that has a file.
     ToldMissing {
         segment: u64,
         line: u64,

@@ -1,5 +1,5 @@
-//! The meaning of a line in words: one sentence for each kind of line. Each function `put_..` appends to `out` and changes
-//! nothing else; if memory runs out, a part of the words is in `out`.
+//! The meaning of a line in words: one sentence for each kind of line. Each function `put_..` appends to `out` and
+//! changes nothing else; if memory runs out, a part of the words is in `out`.
 ghost use Rattle.std.specs.Prelude.{◌≡◌, ◌++◌, [], ◌∷◌, codes, OnOk};
 ghost use Rattle.std.specs.Fmt.{decimal};
 ghost use Rattle.cmd_explain.specs.Meanings.{meaning, together};
@@ -73,7 +73,7 @@ fn put_run_words(out: &mut Vec<u8>, cause: RunCause) -> Result<(), Memory>
     }
 }
 
-/// Appends the words on an argument at fault: its number, and then `words` for its fault.
+/// Appends the words on a faulty argument: its number, and then `words` for its fault.
 fn put_argument(out: &mut Vec<u8>, argument: u8, words: &[u8]) -> Result<(), Memory>
     ensures { OnOk result (out.new.items ≡ out.old.items ++ together (codes "argument " ∷ decimal argument ∷ words.now ∷ [])) }
 {
@@ -114,8 +114,8 @@ pub fn put_fault_words(out: &mut Vec<u8>, fault: LineFault) -> Result<(), Memory
     }
 }
 
-/// Appends the sentence on a faulty line: its number, then `text`, which says in what text it is, then `words` for the
-/// cause.
+/// Appends the sentence on a faulty line: its number, then `text`, which names the text that the line is in, then
+/// `words` for the cause.
 fn put_line<'a>(out: &mut Vec<u8>, line: u64, text: &'a [u8], words: &'a [u8]) -> Result<(), Memory>
     ensures { OnOk result (out.new.items ≡ out.old.items ++ together (codes "line " ∷ decimal line ∷ text.now ∷ words.now ∷ [])) }
 {
@@ -173,7 +173,7 @@ fn put_old_inventory(out: &mut Vec<u8>, line: u64, words: &[u8]) -> Result<(), M
     )
 }
 
-/// Appends the sentence on a place whose file of told lines is not there.
+/// Appends the sentence on a place whose file of told lines is missing.
 fn put_missing(out: &mut Vec<u8>, segment: u64, line: u64) -> Result<(), Memory>
     ensures { OnOk result (out.new.items ≡ out.old.items ++ meaning (KnownLine.ToldMissing segment line)) }
 {

@@ -1,4 +1,4 @@
-//! The line that shows what a refused line was: the path of its feed, its fault in words, and its first bytes.
+//! The line that shows a refused line: the path of its feed, its fault in words, and its first bytes.
 ghost use Rattle.std.specs.Prelude.{◌≡◌, ◌++◌, OnOk};
 ghost use Rattle.std.specs.List.{flat_map};
 ghost use Rattle.cmd_explain.specs.Shown.{hex_digit, is_plain, shown_byte, shown_line};
@@ -10,7 +10,7 @@ use cmd_types::Memory;
 /// The most bytes of a refused line that are shown (profile).
 const MOST_SHOWN: usize = 120;
 
-/// Whether the byte is shown as it is: a letter, digit, sign or space of ASCII other than the backslash.
+/// Whether the byte is shown unchanged: a letter, digit, sign or space of ASCII other than the backslash.
 fn is_plain(byte: u8) -> bool
     ensures { result ≡ is_plain byte }
 {
@@ -29,7 +29,8 @@ fn hex_digit(number: u8) -> u8
     }
 }
 
-/// Appends a byte as it is shown: a plain one as it is, any other as `\xNN`. If memory runs out, a part may be in `out`.
+/// Appends a byte as it is shown: a plain byte unchanged, any other as `\xNN`. If memory runs out, a part may be in
+/// `out`.
 fn put_byte(out: &mut Vec<u8>, byte: u8) -> Result<(), Memory>
     ensures { OnOk result (out.new.items ≡ out.old.items ++ shown_byte byte) }
 {
@@ -51,9 +52,9 @@ fn put_bytes(out: &mut Vec<u8>, bytes: &[u8]) -> Result<(), Memory>
     Ok(())
 }
 
-/// Appends the line that shows what a refused line was (profile): four spaces, the path of the feed, the fault in words,
-/// and the first 120 bytes of the line, where each byte that is not plain ASCII is written `\xNN`. If memory runs out, a
-/// part of it is in `out`.
+/// Appends the line that shows a refused line (profile): four spaces, the path of the feed, the fault in words, and the
+/// first 120 bytes of the refused line, where each byte that is not plain ASCII is written `\xNN`. If memory runs out,
+/// a part of the line is in `out`.
 ///
 /// ```
 /// let mut out = Vec::new(alloc);

@@ -16,7 +16,7 @@ pub fn inventory_words(cause: Cause) -> &'static [u8]
 {
     match cause {
         Cause::BadForm =>
-            b" has none of the forms contact;NAME;HOSTOPTS;SVCOPTS, host;NAME;MAX;INTERVAL;OPTS;CONTACTS, service;HOST;DESC;MAX;INTERVAL;OPTS;CONTACTS, escalation;HOST;DESC or empty;FIRST;LAST;INTERVAL;OPTS;CONTACTS and option;passive_host_checks_are_soft;VALUE (look at the first word and the number of fields), or an empty name, an empty item in a list or a comma in a contact's name",
+            b" has none of the forms contact;NAME;HOSTOPTS;SVCOPTS, host;NAME;MAX;INTERVAL;OPTS;CONTACTS, service;HOST;DESC;MAX;INTERVAL;OPTS;CONTACTS, escalation;HOST;DESC or empty;FIRST;LAST;INTERVAL;OPTS;CONTACTS, option;NAME;VALUE, settle;SECONDS, delay;HOST;DESC or empty;SECONDS and volatile;HOST;DESC (look at the first word and the number of fields; an option's NAME is passive_host_checks_are_soft or tell_by_clock), or an empty name, an empty item in a list or a comma in a contact's name",
         Cause::BadNumber => b" has a field that is no number, or none that may stand there",
         Cause::BadOption => b" has a letter that this kind of line does not allow",
         Cause::Duplicate => b" defines again what a line before it defines",

@@ -1,2 +1,2 @@
--- Why a ledger holds what it says.
+-- Proofs that a ledger keeps its invariant.
 pub mod LedgerLemmas

@@ -1,4 +1,4 @@
--- A ledger: what it holds of the entries that were applied through it.
+-- A ledger, and what it holds after the entries that were applied through it.
 use Rattle.std.specs.Prelude.{◌≡◌, ◌<◌, ℕ, false, List, [], ◌∷◌, ◌++◌, length, Option, Some, None, slice_index_or}
 use Rattle.cmd_types.specs.declared.entry.Entry.{Entry}
 use Rattle.cmd_types.specs.declared.entry.TheConstants.{MOST_SENDERS}
@@ -30,9 +30,10 @@ pub record AreLastsOf (entries : List Entry) (lasts : List (Option Timed)) : Typ
   pub senders : length lasts ≡ MOST_SENDERS
   pub each : (k : ℕ) → k < MOST_SENDERS → slice_index_or lasts k None ≡ last_command (of_sender k entries)
 
--- The ledger began in this world, after the earlier entries, and these were applied through it: its monitor is where they
--- lead, its counts are those of all entries, and it has the last command of each sender since it began. The lines of the
--- entries, without the rejections of the clock feed, are those printed and then those that wait
+-- The ledger began in this world, after the earlier entries, and the entries `applied` were applied through it. Its
+-- monitor is in the state to which they lead, its counts are those of all entries, and it has the last command of each
+-- sender since it began. The lines of the applied entries, without the rejections of the clock feed, are `printed` and
+-- then `waiting`.
 pub record HasApplied (inv : Configuration) (clock : Option ℕ) (w : World) (earlier applied : List Entry) (printed waiting : List ℕ) (ledger : Ledger) : Type 0 where
   pub has_told : HasToldFrom inv w applied ledger.monitor
   pub stands : StandsFor ledger.past (earlier ++ applied)

@@ -1,4 +1,4 @@
-//! The number of the clock feed of a run: whether a feed is the clock feed is tested here alone.
+//! The number of the clock feed of a run: only this file tests whether a feed is the clock feed.
 ghost use Rattle.std.specs.Prelude.{◌≡◌};
 ghost use Rattle.mon_engine.specs.Telling.{is_clock};
 

@@ -1,4 +1,4 @@
--- The lemmas of live operation.
+-- Lemmas of live operation, a file a subject.
 pub mod FollowLemmas
 pub mod ReadingLemmas
 pub mod StartLemmas

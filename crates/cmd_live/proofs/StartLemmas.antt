@@ -1,4 +1,4 @@
--- Where the reading of a file begins: what one more read brings, and how many commands a text has.
+-- Where the reading of a file begins: the bytes of one more read, and the number of commands of a text.
 use Rattle.std.proofs.Common.{◌≡◌, ℕ, ◌≤◌, ◌<◌, List, ◌++◌, length, Option, Some, None, refl, ap, ◌∙◌, subst, arith, length-append}
 use Rattle.std.specs.Io.KnownBytes.{Consumes}
 use Rattle.cmd_types.specs.Spelling.{Timed}
@@ -31,7 +31,7 @@ TheFirstLaw = (n : ℕ) (front : List ℕ) (last : Option Timed) → IsUpTo n fr
 abbrev pub TheCountLaw : Type 0
 TheCountLaw = (n : ℕ) (front : List ℕ) (last : Option Timed) → IsUpTo n front last → length (commands (items front)) ≡ n
 
--- a text in which so many commands are skipped has so many
+-- a text in which `n` commands are skipped has at least `n` commands
 pub has_as_many : TheLinesLaw → TheWholeLaw → TheFirstLaw → TheCountLaw → (n : ℕ) (text : List ℕ) (s : Skipped) → IsSkipped text n s → n ≤ length (commands (items_so_far text))
 has_as_many lines whole first count n text s is =
     let are = first n is.front s.last is.up_to in
@@ -44,11 +44,11 @@ has_as_many lines whole first count n text s is =
       length-append (commands (items_so_far is.front)) (commands (items_so_far is.rest)),
     )
 
--- so a text that has fewer is that of another file
+-- a text that has fewer commands is that of another file
 pub is_of_another : TheLinesLaw → TheWholeLaw → TheFirstLaw → TheCountLaw → (n : ℕ) (text last : List ℕ) → length (commands (items_so_far text)) < n → IsOfAnother text n last
 is_of_another lines whole first count n text last fewer = λ bytes number is. absurd (omega (arith, fewer, has_as_many lines whole first count n text (record { bytes = bytes; lines = number; last = is.command }) is.skipped))
 
--- and one in which the last of the skipped commands is another
+-- and so is a text in which the last of the skipped commands is another one
 pub other_last : ((n : ℕ) (text : List ℕ) (s s' : Skipped) → IsSkipped text n s → IsSkipped text n s' → s ≡ s') → (n : ℕ) (text last : List ℕ) (s : Skipped) → IsSkipped text n s → (HasLine s.last last → ⊥) → IsOfAnother text n last
 other_last one n text last s skipped other = λ bytes number is.
     let same = one n text (record { bytes = bytes; lines = number; last = is.command }) s is.skipped skipped in

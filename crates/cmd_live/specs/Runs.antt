@@ -1,9 +1,9 @@
--- How many feeds a run has, and the line with which it begins.
+-- The number of feeds of a run, and the line with which it begins.
 use Rattle.std.specs.Prelude.{◌+◌, ℕ, List, Option, Some, None}
 use Rattle.cmd_answer.specs.declared.follow_line.FollowLine.TheVariants.{Following}
 use Rattle.cmd_answer.specs.FollowLines.{follow_line}
 
--- how many feeds there are with the clock feed of this number, if there is one
+-- the number of feeds, counting the clock feed, if there is one
 abbrev pub count_with : (clock : Option ℕ) → (given : ℕ) → ℕ
 count_with None given = given
 count_with (Some number) given = given + 1

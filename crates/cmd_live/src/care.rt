@@ -1,4 +1,4 @@
-//! The fixed properties of a feed for its attendant: the feed's number, what is printed of it, and which commands wait.
+//! The fixed properties of a feed for its attendant: the feed's number, what is printed on it, and which commands wait.
 ghost use Rattle.std.specs.Prelude.{◌≡◌, ◌+◌, IfOk};
 ghost use Rattle.cmd_live.specs.Reading.{seconds_ahead};
 
@@ -23,8 +23,8 @@ pub struct Care {
 }
 
 impl Care {
-    /// The number in its feed of the line that is number `line` among the lines read: the skipped lines count too. The
-    /// error, out of memory, stands for a number above `u64::MAX`.
+    /// The number in the whole feed of the line with the number `line` among the lines read: the skipped lines count
+    /// too. The error, out of memory, stands for a number above `u64::MAX`.
     pub fn number_of(self, line: u64) -> Result<u64, Memory>
         ensures { IfOk result (λ number. number ≡ self.passed + line) }
     {

@@ -1,11 +1,11 @@
 //! Decides whether the time of the system's clock can be used, by a comparison with the monotonic clock from tick to
-//! tick. Without it, a clock that is set wrong for an hour would end downtimes for good.
+//! tick. Without this check, a clock that is wrong for an hour would end downtimes for good.
 ghost use Rattle.std.specs.Prelude.{◌≡◌, ◌-◌};
 
-/// The most seconds by which the system's clock may move more than the time that passed between two ticks: a choice.
+/// The most seconds by which the system's clock may gain on the monotonic clock between two ticks: a choice.
 const MOST_AHEAD: u64 = 60;
 
-/// The number of ticks in a row that have to agree after a jump before the time is used again: a choice.
+/// The number of ticks in a row that have to agree after a jump, before the time is used again: a choice.
 const AGREEING: u32 = 5;
 
 /// The readings of both clocks at one moment, in seconds.
@@ -18,8 +18,8 @@ pub struct Clocks {
 }
 
 impl Clocks {
-    /// The seconds by which the system's clock has moved more than the time that passed since `before`; 0 where it has
-    /// not.
+    /// The seconds by which the system's clock has gained on the monotonic clock since `before`; 0 where it has not
+    /// gained.
     fn ahead_of(self, before: Clocks) -> u64
         ensures { result ≡ (self.system - before.system) - (self.monotonic - before.monotonic) }
     {

@@ -1,5 +1,5 @@
-//! What a text that the file of the inventory has now is to a run: the text of the run, a new inventory, or one with a
-//! fault.
+//! Compares the present text of the inventory file with the text of a run: it is the same text, a new inventory, or a
+//! text with a fault.
 ghost use Rattle.std.specs.Prelude.{◌≡◌, ◌≢◌, IfOk, IfErr, OnErr, MatchOption};
 ghost use Rattle.mon_inventory.specs.declared.fault.Cause.TheVariants.{Memory};
 ghost use Rattle.cmd_live.specs.NewInventories.{whole_lines_of, IsNewInventory, IsInventoryFault, IsLineOf};
@@ -20,11 +20,11 @@ pub fn end_last_line(mut text: Vec<u8>) -> Result<Vec<u8>, Memory>
     Ok(text)
 }
 
-/// The inventory in `text` where it is not `current`, the text under which a run applies its commands, and has an
-/// object. `None` where it is that text.
+/// The inventory in `text`, where `text` is not `current`, the text under which a run applies its commands, and has an
+/// object. `None` where it is the same text.
 ///
-/// The error is the first fault of the text. A text with no object, such as a file that is being written, has the fault
-/// of its first line that this is no host.
+/// The error is the first fault of the text. A text without an object, such as a file that is being written, has a
+/// fault in its first line: it is no host.
 pub fn new_inventory(
     alloc: Global,
     current: &[u8],
@@ -47,7 +47,7 @@ pub fn new_inventory(
     Ok(Some(inventory))
 }
 
-/// The line on a new inventory: the counts of its hosts and of its services.
+/// The line on a new inventory, with the numbers of its hosts and of its services.
 pub fn inventory_line(inventory: &Inventory) -> FollowLine
     ensures { IsLineOf inventory.now.objects result }
 {

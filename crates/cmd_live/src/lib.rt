@@ -1,6 +1,6 @@
-//! Live operation: the feeds that a run follows and the files that it keeps, on the system that it runs on. `run` opens
-//! the feeds of a run and makes the reader and the attendant of each. [`live`] has all code that trusts the system; the
-//! modules beside it have what can be proved of following a feed.
+//! Live operation: the feeds that a run follows and the files that it keeps, on the operating system. `run` opens the
+//! feeds of a run and makes the reader and the attendant of each. [`live`] has all code that trusts the system; the
+//! modules beside it have the parts of following a feed that can be proved.
 #![tactic(auto)]
 
 mod care;

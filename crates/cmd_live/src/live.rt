@@ -2,11 +2,11 @@
 //! feeds, prints lines to the error stream, and keeps the files of the state directory. No contract says what a file, a
 //! pipe or a clock does.
 //!
-//! So each function here that has a body and no clause, of its own or of its trait, has a line `Believed`: what it is
-//! believed to do. In parentheses stand the premises below that this rests on, and the example (a folder of examples/),
-//! the script of bench/ or the tests of a module that show it. What can be proved stands outside: in the modules `care`,
-//! `clocks`, `inventories`, `numbered`, `pipe_text`, `seen_lines`, `segment_names`, `start`, `tail` and `told_lines`, and,
-//! for the texts of all lines, in `cmd_answer`.
+//! So each function here that has a body and no clause, of its own or of its trait, has a line `Believed`, which says
+//! what the function is believed to do. The parentheses name the premises below on which this rests, and the example
+//! (a folder of examples/), the script of bench/ or the tests of a module that show it. The parts that can be proved
+//! are in other modules: `care`, `clocks`, `inventories`, `numbered`, `pipe_text`, `seen_lines`, `segment_names`,
+//! `start`, `tail` and `told_lines`, and, for the texts of all lines, in `cmd_answer`.
 //!
 //! The premises:
 //!
@@ -17,12 +17,12 @@
 //! 3. *A cut.* Setting a smaller length removes the bytes after it and changes no other byte.
 //! 4. *A sync.* The bytes and the length that a file had when its sync returned without an error survive a crash. Of
 //!    bytes that were appended later, a crash leaves a prefix.
-//! 5. *A sync of a directory.* The names that were made or renamed in it before survive a crash.
-//! 6. *A rename.* At each moment, and after a crash, the name is that of the old file or of the new one.
+//! 5. *A sync of a directory.* The names that were created or renamed in the directory before survive a crash.
+//! 6. *A rename.* At each moment, and after a crash, the name refers to the old file or to the new one.
 //! 7. *A lock.* At most one process has locked a file, until it drops the lock or ends by any means.
-//! 8. *Metadata.* The kind, the length, the device and the number of a file are those that it has at that moment. Two
-//!    names are names of one file exactly if device and number are equal. Of two files the one that was made
-//!    or written later has the later time for that, unless the clock was set back in between or the file was copied.
+//! 8. *Metadata.* The kind, the length, the device and the number of a file are its present ones. Two names refer to
+//!    one file exactly if device and number are equal. Of two files, the one that was created or written later has the
+//!    later time of creation or of the last write, unless the clock was set back in between or the file was copied.
 //! 9. *A clock.* The system's clock returns a time or an error. A sleep lasts at least as long as requested.
 //! 10. *A pipe.* Opening it for reading alone waits for a writer; opening it for both does not wait. A read waits for a
 //!     byte, and returns 0 bytes only once no process has the pipe open for writing. Each byte goes to one reader.

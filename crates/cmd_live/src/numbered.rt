@@ -1,11 +1,10 @@
-//! The numbers of the feeds that a call names. They are those of the feeds of the run, among which the clock feed has a
-//! number too.
+//! The numbers of the feeds that a call names, among all feeds of the run: the clock feed has a number too.
 ghost use Rattle.std.specs.Prelude.{◌≡◌, IfOk, map};
 
 use cmd_types::Memory;
 use std::alloc::Global;
 
-/// The path that stands for a feed of the state directory that the call does not name: no word of a call is this one.
+/// The path that stands for a feed of the state directory that the call does not name. No word of a call equals it.
 pub const UNNAMED: &str = "\0";
 
 /// A feed that the call names, with its number among all feeds of the run, from 0.

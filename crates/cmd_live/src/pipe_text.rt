@@ -1,5 +1,5 @@
-//! The bytes that were read of a pipe, which are passed on line by line, so that what is not passed on can be kept for a
-//! later run. `MARK` is taken out of them: the program itself writes it, to end a read that waits.
+//! The bytes that were read from a pipe. They are passed on line by line, so that the rest can be kept for a later run.
+//! Each `MARK` is removed from them: the program itself writes it, to end a read that waits.
 ghost use Rattle.std.specs.Prelude.{◌≡◌, ◌==◌, ◌↔◌, ◌≤◌, ◌<◌, ◌+◌, ◌-◌, ◌++◌, [], true, false, min, IfSome, IsTrue, MatchBool, OnOk, OnErr, length, drop, take, vec_len};
 ghost use Rattle.std.specs.List.{filter};
 ghost use Rattle.cmd_live.specs.PipeTexts.{behind_lines, mark, IsWithoutMark, LosesMarks};
@@ -9,29 +9,29 @@ use std::alloc::Global;
 use std::io::Read;
 use std::mem;
 
-/// What the program writes into a pipe to end a read. No sender ends a line with these two control characters: a line
-/// with a zero byte is no command.
+/// The bytes that the program writes into a pipe to end a read. No sender ends a line with these two control
+/// characters: a line with a zero byte is no command.
 pub const MARK: &[u8] = b"\0\x01\n";
 
-/// So many bytes without a line feed are passed on as they are: no line of a command has so many.
+/// This many bytes without a line feed are passed on before the line ends: no line of a command is so long.
 const LONGEST: usize = 16_384;
 
-/// The bytes that were read and not passed on yet.
+/// The bytes that were read from a pipe, and how far they were passed on.
 #[derive(Drop)]
 pub struct PipeText {
     bytes: Vec<u8>,
-    /// How many of the bytes were passed on.
+    /// The number of these bytes that were passed on.
     given: usize,
-    /// Up to where the bytes are passed on next.
+    /// The end of the bytes that may be passed on.
     whole: usize,
-    /// How many lines were passed on before these bytes.
+    /// The number of lines that were passed on before these bytes.
     lines: u64,
-    /// Whether these bytes begin inside a line, whose beginning was passed on since it was too long.
+    /// Whether these bytes begin inside a line whose beginning was passed on because the line was too long.
     is_inside: bool,
 }
 
 impl PipeText {
-    /// A text of these bytes, which were read before.
+    /// Makes a text of these bytes, which an earlier run read.
     pub fn new(left: Vec<u8>) -> PipeText
         ensures bytes { result.bytes.items ≡ left.items }
         ensures given { result.given ≡ 0 }
@@ -63,7 +63,7 @@ impl PipeText {
         self.whole = self.whole.saturating_sub(given);
     }
 
-    /// Takes the marks out of the bytes.
+    /// Removes the marks from the bytes.
     fn drop_marks(&mut self)
         ensures marks { LosesMarks self.old.bytes.items self.new.bytes.items }
         ensures given { self.new.given ≡ self.old.given }
@@ -71,8 +71,8 @@ impl PipeText {
         'marks: while drop_mark(&mut self.bytes) {}
     }
 
-    /// Finds up to where the bytes are passed on, without the last `held` bytes: behind the last line feed, or all where
-    /// they are a line that is too long.
+    /// Finds the end of the bytes that may be passed on, the last `held` bytes aside: it is after the last line feed,
+    /// or at the end where the bytes are a line that is too long.
     fn find_whole(&mut self, held: usize)
         ensures same { self.new.bytes.items ≡ self.old.bytes.items }
         ensures given { self.new.given ≡ self.old.given }
@@ -85,8 +85,8 @@ impl PipeText {
         };
     }
 
-    /// Takes the bytes of a read. `is_full` where the read had no room for more, so that the last bytes may be a part of
-    /// a mark; they are not passed on then. After an error the bytes to be passed on are as before.
+    /// Takes the bytes of a read. `is_full` says that the read filled its buffer, so that the last bytes may be a part
+    /// of a mark; such a part is not passed on yet. After an error the bytes to be passed on are unchanged.
     pub fn take(&mut self, piece: &[u8], is_full: bool) -> Result<(), Memory>
         ensures taken { OnOk result (LosesMarks (drop self.old.given self.old.bytes.items ++ piece.now) self.new.bytes.items) }
         ensures kept { OnErr result (self.new.bytes.items ≡ drop self.old.given self.old.bytes.items) }
@@ -104,7 +104,7 @@ impl PipeText {
         Ok(())
     }
 
-    /// At the end of the pipe all bytes are passed on.
+    /// Lets all bytes be passed on, at the end of the pipe.
     pub fn end(&mut self)
         ensures same { self.new.bytes.items ≡ self.old.bytes.items }
         ensures given { self.new.given ≡ self.old.given }
@@ -112,8 +112,8 @@ impl PipeText {
         self.whole = self.bytes.len();
     }
 
-    /// Copies the next bytes into the buffer, and returns how many they are; 0 where no whole line is left. The bytes
-    /// themselves are unchanged.
+    /// Copies the next bytes that may be passed on into the buffer, and returns their number; 0 where none is left. The
+    /// stored bytes are unchanged.
     pub fn give(&mut self, buffer: &mut [u8]) -> usize
         ensures bound { result ≤ length buffer.new }
         ensures same { self.new.bytes.items ≡ self.old.bytes.items }
@@ -129,7 +129,7 @@ impl PipeText {
         count
     }
 
-    /// Whether bytes are there to be passed on.
+    /// Whether there are bytes that may be passed on.
     pub fn has_whole(&self) -> bool
         ensures { IsTrue result ↔ (self.now.given < self.now.whole) }
     {
@@ -144,8 +144,8 @@ impl PipeText {
         self.given = self.given.saturating_sub(count);
     }
 
-    /// Takes back the part of a line that was passed on last, so that what is left begins with a line. Where it begins
-    /// inside one that was too long, its first byte becomes one with which no command begins.
+    /// Takes back the unfinished line that was passed on last, so that the rest begins with a line. Where the rest
+    /// begins inside a line that was too long, its first byte is replaced by one with which no command begins.
     pub fn take_back_part(&mut self)
         ensures given { self.new.given ≤ self.old.given }
         ensures length { length self.new.bytes.items ≡ length self.old.bytes.items }
@@ -162,7 +162,7 @@ impl PipeText {
         }
     }
 
-    /// Takes back the line of this number, counted from 1 over all bytes, and what was passed on behind it.
+    /// Takes back the line of this number, counted from 1 over all bytes, and all bytes that were passed on after it.
     pub fn take_back_line(&mut self, number: u64)
         ensures same { self.new.bytes.items ≡ self.old.bytes.items }
         ensures given { self.new.given ≡ min self.old.given (length self.old.bytes.items - length (behind_lines (number - 1 - self.old.lines) self.old.bytes.items)) }
@@ -173,7 +173,7 @@ impl PipeText {
         self.given = self.given.min(at);
     }
 
-    /// Takes the bytes that were not passed on, so that none are left. Takes no memory.
+    /// Takes out the bytes that were not passed on, so that none is left. Takes no memory.
     pub fn take_left(&mut self, alloc: Global) -> Vec<u8>
         ensures left { result.items ≡ drop self.old.given self.old.bytes.items }
         ensures none { self.new.bytes.items ≡ [] }
@@ -185,14 +185,14 @@ impl PipeText {
     }
 }
 
-/// How many line feeds the text has.
+/// The number of line feeds in the text.
 pub fn count_ends(text: &[u8]) -> u64
     ensures { result ≡ length (filter (λ byte. byte == 10) text.now) }
 {
     text.iter().filter(|byte| **byte == b'\n').count() as u64
 }
 
-/// The text behind its first `count` lines; empty where it has fewer.
+/// The text after its first `count` lines; empty where it has fewer.
 pub fn behind_lines(text: &[u8], count: u64) -> &[u8]
     ensures { result.now ≡ behind_lines count text.now }
 {
@@ -207,7 +207,7 @@ pub fn behind_lines(text: &[u8], count: u64) -> &[u8]
     rest
 }
 
-/// How many of the last bytes are a beginning of a mark, but not the whole of one.
+/// The number of bytes at the end that are a prefix of a mark, but not a whole mark.
 fn part_of_mark(bytes: &[u8]) -> usize {
     let mut held = 0;
     for part in 1..MARK.len() {
@@ -218,7 +218,7 @@ fn part_of_mark(bytes: &[u8]) -> usize {
     held
 }
 
-/// Takes the first mark out of the bytes, and returns whether there was one.
+/// Removes the first mark from the bytes, and returns whether there was one.
 fn drop_mark(bytes: &mut Vec<u8>) -> bool
     ensures out { MatchBool result (IsWithoutMark bytes.old.items bytes.new.items) (bytes.new.items ≡ bytes.old.items) }
     ensures falls { result ≡ true → vec_len bytes.new < vec_len bytes.old }

@@ -1,5 +1,5 @@
 //! A run that follows feeds, whether it keeps its commands or not: the call, the number of the clock feed, and for each
-//! feed its reader and its attendant. A run opens feeds, and writes to nothing but the error stream.
+//! feed its reader and its attendant. A run opens feeds, and writes only to the error stream.
 ghost use Rattle.std.specs.Prelude.{◌≡◌, ◌+◌, true, not, All, IfOk, IfErr, OnOk, OnErr, length, map};
 ghost use Rattle.mon_engine.specs.Telling.{is_clock};
 ghost use Rattle.std.specs.List.{range_with_len};
@@ -24,7 +24,7 @@ use std::io::{Read, Write};
 use std::marker::Send;
 use std::rt::Files;
 
-/// A call that follows feeds, with the system on which it is done and its allocator.
+/// A call that follows feeds, with the system on which it runs and its allocator.
 #[derive(Drop)]
 pub struct Call<'a, R> {
     pub rt: &'a R,
@@ -62,8 +62,8 @@ impl<'a, R: Files> Run<'a, R> {
         })
     }
 
-    /// A value for each feed of the run, in order of the feeds' numbers: those of `given` for the feeds that the call
-    /// names, and `of_clock` for the clock feed, where there is one. Fails if memory runs out.
+    /// A value for each feed of the run, in order of the feeds' numbers: a value of `given` for each feed that the call
+    /// names, and `of_clock` for the clock feed, if there is one. Fails if memory runs out.
     fn with_clock<T: Drop>(&self, given: Vec<T>, of_clock: T) -> Result<Vec<T>, Memory>
         ensures { IfOk result (λ all. length all.items ≡ count_with self.now.clock (length given.items)) }
     {

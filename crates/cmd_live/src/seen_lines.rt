@@ -1,5 +1,5 @@
-//! The lines of a feed that its sender was given last, so that a refused line can be shown. A line that is not ended yet
-//! is kept by its first bytes alone.
+//! The lines of a feed that its sender got last, so that a refused line can be shown. Of a line that has not ended yet
+//! only the first bytes are kept.
 ghost use Rattle.std.specs.Prelude.{◌≡◌, ◌-◌, []};
 ghost use Rattle.cmd_types.specs.Cuts.{before};
 ghost use Rattle.cmd_live.specs.PipeTexts.{behind_lines};
@@ -8,19 +8,19 @@ use crate::pipe_text::{behind_lines, count_ends};
 use cmd_types::cut;
 use std::alloc::Global;
 
-/// How many of the first bytes of an unended line are kept: more than are shown of a line.
+/// The number of first bytes that are kept of a line that has not ended: more than are shown of a line.
 const KEPT: usize = 128;
 
-/// The lines that were given last, and how many were given before them.
+/// The lines that the sender got last, and the number of lines that it got before them.
 #[derive(Drop)]
 pub struct SeenLines {
     text: Vec<u8>,
-    /// How many lines were given before those of `text`.
+    /// The number of lines before those of `text`.
     before: u64,
 }
 
 impl SeenLines {
-    /// No line was given yet.
+    /// Makes the lines of a feed whose sender has got no line yet.
     pub fn new(alloc: Global) -> SeenLines
         ensures text { result.text.items ≡ [] }
         ensures before { result.before ≡ 0 }
@@ -31,8 +31,8 @@ impl SeenLines {
         }
     }
 
-    /// Adds the bytes that the sender is given now. The lines that were ended before are forgotten, since the sender has
-    /// dealt with them. If memory runs out, the bytes are counted and not kept.
+    /// Adds the bytes that the sender gets now. Lines that had ended before are forgotten, since the sender has handled
+    /// them. If memory runs out, the lines of these bytes are counted but not kept.
     pub fn note(&mut self, piece: &[u8]) {
         if let Some(last) = self.text.iter().rposition(|byte| *byte == b'\n') {
             self.before = self.before.saturating_add(count_ends(&self.text));
@@ -45,7 +45,7 @@ impl SeenLines {
         }
     }
 
-    /// The line of this number, counted from 1, without its line feed, if it is kept; else no byte.
+    /// The line of this number, counted from 1, without its line feed; empty where it is not kept.
     pub fn line(&self, number: u64) -> &[u8]
         ensures { result.now ≡ before 10 (behind_lines (number - 1 - self.now.before) self.now.text.items) }
     {

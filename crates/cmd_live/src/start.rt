@@ -1,5 +1,5 @@
 //! Finds the position where the reading of a regular file begins: after the line of the last command that earlier runs
-//! journaled, or at the beginning if the file is now another one. The file is only read.
+//! journaled, or at the beginning if the name now refers to another file. The file is only read.
 ghost use Rattle.std.specs.Prelude.{◌≡◌, ◌++◌, [], ◌∷◌, ℕ, List, Some, true, false, IfOk, IfSome};
 ghost use Rattle.std.specs.Str.{bytes_eq};
 ghost use Rattle.cmd_types.specs.Spelling.{canonical};
@@ -33,7 +33,7 @@ pub struct Known<'a> {
 pub enum Start {
     /// After the first `bytes` bytes, which have `lines` lines.
     Behind { bytes: u64, lines: u64 },
-    /// At the beginning, since the file is another one than the file that earlier runs read.
+    /// At the beginning, since the file is not the one that earlier runs read.
     Anew,
 }
 
@@ -90,8 +90,8 @@ fn has_line(alloc: Global, last: &Option<Stamped>, line: &[u8]) -> Result<bool, 
 fn start_behind(alloc: Global, skipped: &Skipped, known: Known<'_>) -> Result<Start, Memory>
     ensures { IfOk result (λ start. (text : List ℕ) → IsSkipped text known.entry.commands skipped.now → IsStartOf text known.entry start) }
 {
-    // For the proof alone, at no cost when it runs: just one prefix of a text has this number of commands and ends with
-    // the last of them.
+    // For the proof alone, at no cost when it runs: exactly one prefix of a text has this number of commands and ends
+    // with the last of them.
     skipped_are_one();
     if !has_line(alloc, &skipped.last, known.last)? {
         return Ok(Start::Anew);
@@ -133,8 +133,9 @@ fn skip_commands<R: Read>(alloc: Global, reader: &mut R, commands: u64) -> Optio
 }
 
 /// Reads a file from its beginning, and finds where the reading of its commands begins: after its journaled commands.
-/// It is another file if it has fewer commands, or another one at the place of the last. Returns `None` where a read
-/// fails, memory runs out, or the text is longer than any file. The file is left at some later position.
+/// It counts as another file if it has fewer commands than were journaled, or another command at the place of the last
+/// one. Returns `None` where a read fails, memory runs out, or the text is longer than any file. The file is left at
+/// some later position.
 pub fn find_start<R: Read>(alloc: Global, reader: &mut R, known: Known<'_>) -> Option<Start>
     ensures { IfSome result (λ start. (text : List ℕ) → R.remaining reader.old ≡ Some text → IsStartOf text known.entry start) }
 {

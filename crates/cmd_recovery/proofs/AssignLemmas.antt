@@ -19,7 +19,7 @@ use Rattle.cmd_recovery.specs.Assigns.{places_to, word_at, has_word, places_of, 
 pub places_more : (n : ℕ) → places_to n ++ n ∷ [] ≡ places_to (n + 1)
 places_more n = (let e : suc n ≡ n + 1 = omega arith in ap places_to e)
 
--- what a test counts for
+-- the number for the result of a test: 1 or 0
 abbrev pub bit : Bool → ℕ
 bit b = cond b 1 0
 
@@ -29,7 +29,7 @@ own_bit i = ap bit (eq-eqb i i refl)
 other_bit : (i n : ℕ) → (i ≡ n → ⊥) → bit (eqb i n) ≡ 0
 other_bit i n other = ap bit (ne_eqb i n other)
 
--- each number below is one of them, once
+-- each smaller number is in the list exactly once
 pub no_place : (i n : ℕ) → n ≤ i → count_by (λ k. eqb i k) (places_to n) ≡ 0
 no_place i zero le = refl
 no_place i (suc n) le = sum_by_push (λ k. bit (eqb i k)) (places_to n) n ∙ (let none = no_place i n (omega (arith, le)) in let other = other_bit i n (λ e. absurd (omega (arith, e, le))) in omega (arith, none, other))
@@ -46,7 +46,7 @@ pub take_whole : {A : Type 0} (xs : List A) → take (length xs) xs ≡ xs
 take_whole [] = refl
 take_whole (x ∷ xs) = ap (λ (l : List _). x ∷ l) (take_whole xs)
 
--- as many places have some words as are given by them
+-- the number of indices with these words is the number of times that the call has the words
 words_counted : (words : List (List ℕ)) (w : List ℕ) (n : ℕ) → n ≤ length words → count_by (has_word words w) (places_to n) ≡ count_by (bytes_eq w) (take n words)
 words_counted words w zero le = refl
 words_counted words w (suc n) le =
@@ -68,7 +68,7 @@ pub given_all : (free : List ℕ) → given_places (map Given free) ≡ free
 given_all [] = refl
 given_all (i ∷ free) = ap (λ (l : List ℕ). i ∷ l) (given_all free)
 
--- one more feed takes its place
+-- one more feed takes an index
 pub shared_more : (all free free' : List ℕ) (rs : List Role) (r : Role) → IsPermutation all (given_places rs ++ free) → IsPermutation free (places_of r ++ free') → IsPermutation all (given_places (rs ++ r ∷ []) ++ free')
 shared_more all free free' rs r so_far now =
     subst (IsPermutation all)
@@ -126,7 +126,7 @@ module _ (i : ℕ) where
 
 -- ---- words
 
--- the words at a place are those that are read there
+-- the words at an index are those that are read there
 pub given_word : (words : List (Bor (List ℕ))) (i : ℕ) (d : Bor (List ℕ)) (bytes : List ℕ) → i < length words → bytes ≡ (get_or words i d).now → word_at (map (λ w. w.now) words) i ≡ bytes
 given_word words i d bytes lt is = get_or-map (λ (w : Bor (List ℕ)). w.now) words i d [] lt ∙ sym is
 

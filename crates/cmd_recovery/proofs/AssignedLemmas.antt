@@ -1,4 +1,4 @@
--- The feeds of a run are assigned: each place is taken once, what the directory has stays, and it can be written.
+-- The feeds of a run are assigned: each index is taken once, the feeds of the directory stay, and all can be written.
 use Rattle.std.proofs.Common.{◌≡◌, ◌<◌, ◌≤◌, ◌⊎◌, inl, inr, ℕ, ◌+◌, zero, suc, Bool, true, false, eqb, if◌then◌else◌, List, [], ◌∷◌, ◌++◌, length, map, Option, Some, None, IfSome, All, Bor, refl, sym, ap, ◌∙◌, subst, arith, append_assoc, append-nil, length-append}
 use Rattle.std.specs.Prelude.{slice_get}
 use Rattle.std.specs.Option.{option_map}
@@ -64,7 +64,7 @@ module _ (words : List (List ℕ)) (clock : Option ℕ) (fs : List KeptFeed) (rs
     clock_too = role_of clock within refl;
   }
 
-  -- how many they are
+  -- the number of feeds
   pub as_many : length fs ≡ length words + length (left_out fs rs) + clocks clock false
   as_many =
       (let same = fit_length words clock 0 fs rs fit in
@@ -81,7 +81,7 @@ module _ (words : List (List ℕ)) (clock : Option ℕ) (fs : List KeptFeed) (rs
       by_clock (Some k) low is same all =
           (let given = one_clocks words k 0 fs rs (subst (λ (c : Option ℕ). AreFit words c 0 fs rs) is fit) (omega arith) (omega (arith, low)) in omega (arith, given, same, all))
 
--- ---- what stays
+-- ---- the data that feeds keep
 
 there_still : {A : Type 0} (xs ys : List A) (k : ℕ) (x : A) → slice_get xs k ≡ Some x → slice_get (xs ++ ys) k ≡ Some x
 there_still [] ys k x here = absurd cc
@@ -101,7 +101,7 @@ all_new words [] k g here = absurd cc
 all_new words (i ∷ free) zero g here = (let own : new_feed (word_at words i) ≡ g = cc in subst IsNewFeed own (new_is (word_at words i)))
 all_new words (i ∷ free) (suc k) g here = all_new words free k g here
 
--- those that are new, and the clock, where it is
+-- the new feeds, with a new clock feed where the call asks for one
 abbrev pub news : (words : List (List ℕ)) → (free : List ℕ) → Bool → List KeptFeed
 news words free asks = map (λ i. new_feed (word_at words i)) free ++ (if asks then new_feed [] ∷ [] else [])
 
@@ -157,13 +157,13 @@ are_writable words free list clock clock' asks lacks low before few within = rec
     clock_writable true = All-cons IsWritable (new_feed []) [] (new_writable [] tt) (All-nil IsWritable)
     clock_writable false = All-nil IsWritable
 
--- ---- all of it
+-- ---- all feeds
 
--- they fit, and each place is taken once
+-- the feeds fit, and each index is taken once
 abbrev Finished : (words : List (List ℕ)) → Option ℕ → List KeptFeed → List Role → Type 0
 Finished words clock list rs = AreFit words clock 0 list rs × IsPermutation (places_to (length words)) (given_places rs) × IfSome clock (λ k. k < length list)
 
--- with the clock, where a new one is asked for
+-- with a new clock feed, where the call asks for one
 abbrev pub with_clock : Bool → List KeptFeed → List KeptFeed
 with_clock asks list = list ++ (if asks then new_feed [] ∷ [] else [])
 
@@ -262,7 +262,7 @@ module _ (words : List (List ℕ)) (feeds : Feeds) (list : List KeptFeed) (clock
         (are_writable words free list clock clock' (asks_anew clock asked) lacks low (subst AreWritable (sym same) before) (subst (λ (l : List KeptFeed). length l ≤ MOST_SENDERS) with_news few)
         (subst (λ (l : List KeptFeed). IfSome clock' (λ k. k < length l)) with_news all_finished.2))
 
--- ---- what is asked and answered
+-- ---- the arguments and the result
 
 pub below_all : (n m : ℕ) → n ≤ m → All (λ i. i < m) (places_to n)
 below_all zero m le = All-nil (λ i. i < m)

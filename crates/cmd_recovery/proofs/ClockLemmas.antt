@@ -1,24 +1,27 @@
 -- The clock of a world is the greatest time of the entries that led to it, and of the clock before.
-use Rattle.std.proofs.Common.{◌≡◌, ℕ, max, Bool, true, false, eqb, if◌then◌else◌, List, [], ◌∷◌, Option, Some, None, Result, Ok, Err, refl, ◌∙◌, arith}
+use Rattle.std.proofs.Common.{◌≡◌, ℕ, max, Bool, true, false, eqb, if◌then◌else◌, List, [], ◌∷◌, length, fold, Option, Some, None, Result, Ok, Err, refl, ◌∙◌, arith}
 use Rattle.std.specs.Prelude.{slice_get}
+use Rattle.std.specs.List.{range_with_len}
 use Rattle.cmd_types.specs.declared.entry.Entry.{Entry}
 use Rattle.cmd_journal.specs.Versions.{greatest_time}
 use Rattle.mon_inventory.specs.declared.records.ObjectSpec.{ObjectSpec}
-use Rattle.mon_inventory.specs.Configuration.{Configuration}
+use Rattle.mon_inventory.specs.Configuration.{Configuration, tells_by_clock}
 use Rattle.mon_engine.specs.declared.notice.Notice.{Notice}
 use Rattle.mon_engine.specs.declared.object.Object.{Object}
 use Rattle.mon_engine.specs.declared.outcome.Reason.{Reason}
 use Rattle.mon_engine.specs.declared.outcome.Reason.TheVariants.{UnknownHost}
 use Rattle.mon_engine.specs.Objects.{is_acknowledged, custom_number}
 use Rattle.mon_engine.specs.World.{World}
-use Rattle.mon_engine.specs.Notices.{told, noticed, noticed_by, with_problem, with_recovery, problem_notice, recovery_notice, with_custom, custom_notice, after_custom, after_custom_of, of_object}
+use Rattle.mon_engine.specs.declared.notices.Occasion.TheVariants.{Check, Clock}
+use Rattle.mon_engine.specs.Notices.{told, noticed, noticed_by, with_problem, with_recovery, problem_notice, recovery_notice, with_custom, custom_notice, after_custom, after_custom_of, of_object, told_problem, told_problem_of}
+use Rattle.mon_engine.specs.ByClock.{told_among, told_by_clock}
 use Rattle.mon_engine.specs.Results.{is_taken, started_all, with_started, with_result, is_hard_problem, after_taken, after_result_of, after_check_result}
 use Rattle.mon_engine.specs.Acknowledgements.{acknowledge, told_acknowledged, acknowledged_by, after_acknowledge, unacknowledged_by, after_unacknowledge, after_del_comment}
 use Rattle.mon_engine.specs.Downtimes.{with_records, after_cancel, told_cancelled, after_del_downtime}
 use Rattle.mon_engine.specs.Effects as acts
 use Rattle.mon_engine.specs.Effects.{Act, act, named}
 use Rattle.mon_engine.specs.Clock.{advanced}
-use Rattle.mon_engine.specs.Step.{act_on, settled, counted, step, meaning_from}
+use Rattle.mon_engine.specs.Step.{act_on, settled, counted, acted, step, meaning_from}
 
 -- what is done leaves this clock
 abbrev Keeps : (clock : ℕ) → Result World Reason → Type 0
@@ -53,8 +56,8 @@ noticed_clock inv w object change = by_object (slice_get inv.objects object) (sl
     by_object None o = refl
     by_object (Some spec) None = refl
     by_object (Some spec) (Some o) =
-        either_clock w.clock change.recovered (with_recovery w object (recovery_notice inv w object change.hard_recovery spec o)) (if eqb o.status.code 0 then w else with_problem w object (problem_notice inv w object spec o)) refl
-        (either_clock w.clock (eqb o.status.code 0) w (with_problem w object (problem_notice inv w object spec o)) refl (problem_clock w object (problem_notice inv w object spec o)))
+        either_clock w.clock change.recovered (with_recovery w object (recovery_notice inv w object change.hard_recovery spec o)) (if eqb o.status.code 0 then w else with_problem w object (problem_notice inv w Check object spec o)) refl
+        (either_clock w.clock (eqb o.status.code 0) w (with_problem w object (problem_notice inv w Check object spec o)) refl (problem_clock w object (problem_notice inv w Check object spec o)))
 
 result_clock : (inv : Configuration) (w : World) (object code : ℕ) (output : List ℕ) → Keeps w.clock (after_check_result inv w object code output)
 unfolding after_check_result
@@ -124,8 +127,35 @@ advanced_clock : (inv : Configuration) (w : World) (t : ℕ) → (advanced inv w
 unfolding advanced
 advanced_clock inv w t = refl
 
+-- the clock tells at the moment at which it stands
+told_clock : (inv : Configuration) (w : World) (k : ℕ) → (told_problem inv Clock w k).clock ≡ w.clock
+unfolding told_problem
+told_clock inv w k = by_object (slice_get inv.objects k) (slice_get w.objects k)
+  where
+    by_notice : (b : Bool) (n : Option Notice) → (if b then w else with_problem w k n).clock ≡ w.clock
+    by_notice true n = refl
+    by_notice false None = refl
+    by_notice false (Some n) = refl
+
+    by_object : (s : Option ObjectSpec) (o : Option Object) → (of_object w (told_problem_of inv w Clock k) s o).clock ≡ w.clock
+    by_object None o = refl
+    by_object (Some spec) None = refl
+    by_object (Some spec) (Some o) = by_notice (eqb o.status.code 0) (problem_notice inv w Clock k spec o)
+
+each_told_clock : (inv : Configuration) (w : World) (ks : List ℕ) → (fold (told_problem inv Clock) w ks).clock ≡ w.clock
+each_told_clock inv w [] = refl
+each_told_clock inv w (k ∷ ks) = each_told_clock inv (told_problem inv Clock w k) ks ∙ told_clock inv w k
+
+by_clock : (inv : Configuration) (w : World) → (told_by_clock inv w).clock ≡ w.clock
+unfolding told_by_clock
+by_clock inv w = by_option (tells_by_clock inv)
+  where
+    by_option : (b : Bool) → (if b then told_among inv w (length inv.objects) else w).clock ≡ w.clock
+    by_option true = each_told_clock inv w (range_with_len 0 (length inv.objects))
+    by_option false = refl
+
 step_clock : (inv : Configuration) (w : World) (e : Entry) → (step inv w e).0.clock ≡ max w.clock e.stamped.time
-unfolding step
+unfolding step acted
 step_clock inv w e =
     (let t = max w.clock e.stamped.time in
     let v = advanced inv w t in
@@ -133,7 +163,8 @@ step_clock inv w e =
     let now : v.clock ≡ max w.clock t = advanced_clock inv w t in
     let same : done.clock ≡ v.clock = settled_clock v e.sender e.place (act_on inv v (named inv e.stamped.command)) (acted_clock inv v (named inv e.stamped.command)) in
     let later : (advanced inv (counted done) t).clock ≡ max done.clock t = advanced_clock inv (counted done) t in
-    omega (arith, now, same, later))
+    let told = by_clock inv (advanced inv (counted done) t) in
+    omega (arith, now, same, later, told))
 
 pub meaning_clock : (inv : Configuration) (w : World) (es : List Entry) → (meaning_from inv w es).clock ≡ max w.clock (greatest_time es)
 unfolding meaning_from

@@ -1,4 +1,4 @@
--- The feeds of a run: each is the clock, given by its words, or left out.
+-- The feeds of a run: each is the clock feed, named by the call, or left out.
 use Rattle.std.proofs.Common.{◌≡◌, ◌<◌, ◌≤◌, inl, inr, ℕ, ◌+◌, zero, suc, Bool, true, false, if◌then◌else◌, List, [], ◌∷◌, ◌++◌, length, map, get_or, take, Option, Some, None, IfSome, refl, sym, ap, ◌∙◌, subst, arith}
 use Rattle.std.specs.Prelude.{slice_get}
 use Rattle.std.specs.List.{count_by}
@@ -56,7 +56,7 @@ module _ (words : List (List ℕ)) where
   fit_at clock n (f ∷ fs) (q ∷ rs) fit (suc k) r here =
       (let more = fit_at clock (n + 1) fs rs fit.1 k r here in (more.0, more.1, (let e : (n + 1) + k ≡ n + suc k = omega arith in subst (λ (m : ℕ). Fits words clock m more.0 r) e more.2)))
 
-  -- new feeds fit behind the clock
+  -- new feeds fit after the clock feed
   pub fit_new : (clock : Option ℕ) (n : ℕ) (free : List ℕ) → IfSome clock (λ k. k < n) → AreFit words clock n (map (λ i. new_feed (word_at words i)) free) (map Given free)
   fit_new clock n [] low = tt
   fit_new clock n (i ∷ free) low = ((below_clock clock n low n (omega arith), refl), fit_new clock (n + 1) free (higher clock low))
@@ -65,7 +65,7 @@ module _ (words : List (List ℕ)) where
       higher None low = tt
       higher (Some k) low = omega (arith, low)
 
-  -- where there is no clock, one behind them changes nothing
+  -- where there is no clock feed, a clock feed after these feeds changes nothing
   pub fit_other : (n m : ℕ) (fs : List KeptFeed) (rs : List Role) → AreFit words None n fs rs → n + length fs ≤ m → AreFit words (Some m) n fs rs
   fit_other n m [] [] fit le = tt
   fit_other n m [] (r ∷ rs) fit le = absurd fit
@@ -100,7 +100,7 @@ module _ (words : List (List ℕ)) where
       let rest = none_clocks (Some k) (n + 1) fs rs fit.1 (λ m le lt. ne_eqb k m (λ e. absurd (omega (arith, own, le, e)))) in
       omega (arith, rest))
 
-  -- ---- the words that the directory has: those that are given, and those that are left out
+  -- ---- the words of the directory's feeds: those that the call names, and those that it leaves out
 
   own_first : (w : List ℕ) (clock : Option ℕ) (n : ℕ) (f : KeptFeed) (fs : List KeptFeed) → is_clock clock n ≡ false → count_by (bytes_eq w) (own_words clock n (f ∷ fs)) ≡ bit (bytes_eq w f.words) + count_by (bytes_eq w) (own_words clock (n + 1) fs)
   own_first w clock n f fs other =
@@ -126,7 +126,7 @@ module _ (words : List (List ℕ)) where
       ap (λ (b : Bool). count_by (bytes_eq w) (if b then own_words clock (n + 1) fs else f.words ∷ own_words clock (n + 1) fs)) fit.0
       ∙ own_given w clock (n + 1) fs rs fit.1
 
--- what a feed of the directory is
+-- the role of a feed of the directory
 pub fits_of : (words : List (List ℕ)) (clock : Option ℕ) (n : ℕ) (f : KeptFeed) (r : Role) (b : Bool) → b ≡ is_clock clock n → (b ≡ true → ◌≡◌ {A = Role} r Clock) → (b ≡ false → IfGiven r (λ place. word_at words place ≡ f.words)) → Fits words clock n f r
 fits_of words clock n f (Given i) true is clocked given = absurd (let clash : ◌≡◌ {A = Role} (Given i) Clock = clocked refl in cc)
 fits_of words clock n f Unnamed true is clocked given = absurd (let clash : ◌≡◌ {A = Role} Unnamed Clock = clocked refl in cc)
@@ -140,7 +140,7 @@ length_front [] n lt = absurd (omega (arith, lt))
 length_front (x ∷ xs) zero lt = refl
 length_front (x ∷ xs) (suc n) lt = ap suc (length_front xs n (omega (arith, lt)))
 
--- one more fits
+-- one more feed fits its role
 pub fit_more : (words : List (List ℕ)) (clock : Option ℕ) (feeds : List KeptFeed) (n : ℕ) (f : KeptFeed) (rs rs' : List Role) (r : Role) → n < length feeds → f ≡ get_or feeds n f → AreFit words clock 0 (take n feeds) rs → Fits words clock n f r → rs' ≡ rs ++ r ∷ []
     → AreFit words clock 0 (take (n + 1) feeds) rs'
 fit_more words clock feeds n f rs rs' r lt is fit fits put =

@@ -1,4 +1,4 @@
--- The feeds of a run: new ones come in the order in which they are given.
+-- The feeds of a run: new feeds come in the order of the call.
 use Rattle.std.proofs.Common.{◌≡◌, ◌<◌, ◌≤◌, ℕ, zero, suc, Bool, true, false, if◌then◌else◌, List, [], ◌∷◌, ◌++◌, length, map, take, drop, refl, sym, ap, ◌∙◌, subst, arith, append_assoc}
 use Rattle.std.proofs.lemmas.List.{drop_at}
 use Rattle.cmd_recovery.specs.declared.feeds.assigned.Role.{Role}
@@ -15,7 +15,7 @@ above_without i [] (suc at) all = tt
 above_without i (x ∷ xs) zero all = all.1
 above_without i (x ∷ xs) (suc at) all = (all.0, above_without i xs at all.1)
 
--- without one of them they ascend still
+-- without one of the numbers the others still ascend
 pub ascend_without : (xs : List ℕ) (at : ℕ) → Ascend xs → Ascend (take at xs ++ drop (suc at) xs)
 ascend_without [] zero all = tt
 ascend_without [] (suc at) all = tt
@@ -54,7 +54,7 @@ in_order [] true at = refl
 in_order [] false at = tt
 in_order (x ∷ free) asks at = (above_with x free asks at.0, in_order free asks at.1)
 
--- behind those of the directory they are in order
+-- the new feeds come in order after those of the directory
 pub new_in_order : (rs rs' rs'' : List Role) (free : List ℕ) (asks : Bool) (count : ℕ) → length rs ≡ count → rs' ≡ rs ++ map Given free → rs'' ≡ rs' ++ (if asks then Clock ∷ [] else []) → Ascend free → AreInOrder (drop count rs'')
 new_in_order rs rs' rs'' free asks count same more last at =
     subst AreInOrder

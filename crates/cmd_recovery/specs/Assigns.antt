@@ -1,4 +1,4 @@
--- The feeds of a run: those that a directory has, and those that the call names.
+-- The feeds of a run: the feeds of the directory, and those that the call names.
 use Rattle.std.specs.Prelude.{◌≡◌, ◌≢◌, ◌<◌, ◌⊎◌, ◌+◌, ℕ, zero, suc, Bool, true, false, List, [], ◌∷◌, ◌++◌, length, map, Option, Some, None, IfSome, slice_get, slice_index_or, All, if◌then◌else◌}
 use Rattle.std.specs.List.{count_by}
 use Rattle.std.specs.Str.{bytes_eq}
@@ -12,10 +12,10 @@ use Rattle.cmd_recovery.specs.declared.feeds.assigned.Role.TheVariants.{Given, C
 use Rattle.cmd_recovery.specs.declared.feeds.assigned.AssignFault.{AssignFault}
 use Rattle.cmd_recovery.specs.declared.feeds.assigned.AssignFault.TheVariants as fault
 
--- ---- what stays
+-- ---- the data that a feed keeps
 
--- The feed keeps its words, its count and its last line. The count of its commands of earlier files is the same where
--- the reading resumes in the same file; it is that of all its commands where the reading begins anew, in another file
+-- The feed keeps its words, its count and its last line. The count of its commands in earlier files is unchanged where
+-- reading resumes in the same file; it becomes the count of all its commands where reading begins anew, in another file
 pub record KeepsFeed (before after : KeptFeed) : Type 0 where
   pub words : after.words ≡ before.words
   pub journaled : after.journaled ≡ before.journaled
@@ -35,10 +35,10 @@ pub record TakesOver (before after : Feeds) : Type 0 where
   pub new : (k : ℕ) (g : KeptFeed) → slice_get before.list k ≡ None → slice_get after.list k ≡ Some g → IsNewFeed g
   pub clock : (after.clock ≡ before.clock) ⊎ ((before.clock ≡ None) × IfSome after.clock (λ k. slice_get before.list k ≡ None))
 
--- ---- what each feed is
+-- ---- the roles of the feeds
 
--- The feeds of a run by the words of the call: each of the words has one number, and none has two. A feed that has none
--- of the words is the clock feed, or one that the call leaves out.
+-- The feeds of a run by the words of the call: each of the words has exactly one number. A feed that has none of the
+-- words is the clock feed, or a feed that the call leaves out.
 pub record AreAssigned (words : List (List ℕ)) (feeds : Feeds) (roles : List Role) : Type 0 where
   pub one_each : length roles ≡ length feeds.list
   pub is_given : (k i : ℕ) → slice_get roles k ≡ Some (Given i) → slice_get words i ≡ slice_get (map (λ f. f.words) feeds.list) k
@@ -61,7 +61,7 @@ AreInOrder (Given i ∷ roles) = AreAbove i roles × AreInOrder roles
 AreInOrder (Clock ∷ roles) = roles ≡ []
 AreInOrder (Unnamed ∷ roles) = AreInOrder roles
 
--- the clock feed is unchanged, and a new one is there where one is asked for
+-- an existing clock feed is unchanged; where there was none, there is a new one if the call asks for it
 abbrev pub HasClock : (before : Option ℕ) → (has_clock : Bool) → (after : Option ℕ) → Type 0
 HasClock (Some k) has_clock after = after ≡ Some k
 HasClock None true after = after ≢ None
@@ -74,17 +74,17 @@ abbrev pub own_words : (clock : Option ℕ) → (number : ℕ) → List KeptFeed
 own_words clock number [] = []
 own_words clock number (f ∷ feeds) = if is_clock clock number then own_words clock (number + 1) feeds else f.words ∷ own_words clock (number + 1) feeds
 
--- the call has these words fewer times than the directory has feeds of these words, the clock feed aside
+-- the call has these words fewer times than the directory has feeds of these words, not counting the clock feed
 abbrev pub LacksOf : (words : List (List ℕ)) → Feeds → (w : List ℕ) → Type 0
 LacksOf words feeds w = count_by (bytes_eq w) words < count_by (bytes_eq w) (own_words feeds.clock 0 feeds.list)
 
--- A feed that the call leaves out is one of the directory, and the call has its words fewer times than the directory;
--- and beside such a feed there is no new one.
+-- A feed that the call leaves out is a feed of the directory, and the call has its words fewer times than the
+-- directory. If the call leaves out a feed, it names no new one.
 pub record AreUnnamed (words : List (List ℕ)) (before : Feeds) (roles : List Role) : Type 0 where
   pub of : (k : ℕ) → slice_get roles k ≡ Some Unnamed → (w : List ℕ) × (slice_get (map (λ f. f.words) before.list) k ≡ Some w) × LacksOf words before w
   pub alone : (k l i : ℕ) → slice_get roles k ≡ Some Unnamed → slice_get roles l ≡ Some (Given i) → l < length before.list
 
--- ---- why there are no numbers
+-- ---- why no numbers are assigned
 
 -- the call leaves out a feed of the directory
 abbrev pub LacksOne : (words : List (List ℕ)) → Feeds → Type 0
@@ -99,14 +99,14 @@ abbrev pub clocks : (before : Option ℕ) → (has_clock : Bool) → ℕ
 clocks None has_clock = if has_clock then 1 else 0
 clocks (Some k) has_clock = 1
 
--- how many of them are new
+-- how many new clock feeds a run has
 abbrev pub new_clocks : (before : Option ℕ) → (has_clock : Bool) → ℕ
 new_clocks None has_clock = if has_clock then 1 else 0
 new_clocks (Some k) has_clock = 0
 
--- Why feeds have no numbers: the call leaves out a feed of the directory and names a new one, the words of a feed have
--- a line feed, or the clock feed is none of the directory's feeds; or with the clock feed there are too many feeds,
--- those that the call names or those of the directory.
+-- Why no numbers are assigned: the call leaves out a feed of the directory and names a new one, the words of a feed
+-- have a line feed, or the clock feed is none of the directory's feeds; or, counting the clock feed, the call or the
+-- directory has too many feeds.
 abbrev pub IsAssignFault : (words : List (List ℕ)) → Feeds → (has_clock : Bool) → AssignFault → Type 0
 IsAssignFault words feeds has_clock fault.Memory = Unit {0}
 IsAssignFault words feeds has_clock fault.Feeds = (LacksOne words feeds × BringsOne words feeds) ⊎ ((All (Lacks 10) words → ⊥) ⊎ (IfSome feeds.clock (λ k. k < length feeds.list) → ⊥))
@@ -163,7 +163,7 @@ left_out [] roles = []
 left_out (f ∷ feeds) [] = []
 left_out (f ∷ feeds) (r ∷ roles) = words_left f r ++ left_out feeds roles
 
--- the role is not that of the clock feed, and where it is that of a feed of the call, this holds of its index
+-- the role is not that of the clock feed; and where it is that of a feed of the call, its index has this property
 abbrev pub IfGiven : Role → (ℕ → Type 0) → Type 0
 IfGiven (Given i) P = P i
 IfGiven Clock P = ⊥
@@ -182,7 +182,7 @@ AreFit words clock number [] (r ∷ roles) = ⊥
 AreFit words clock number (f ∷ feeds) [] = ⊥
 AreFit words clock number (f ∷ feeds) (r ∷ roles) = Fits words clock number f r × AreFit words clock (number + 1) feeds roles
 
--- a clock feed is to be there, and there is none yet
+-- the call asks for a clock feed, and there is none yet
 abbrev pub asks_anew : Option ℕ → Bool → Bool
 asks_anew None has_clock = has_clock
 asks_anew (Some k) has_clock = false

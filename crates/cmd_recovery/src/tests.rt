@@ -1,5 +1,5 @@
-//! Starts over a store in memory: what is found of torn ends and missing lines, what is written then, and what is
-//! refused.
+//! Starts over a store in memory: torn ends and missing lines that are found, the files that are written then, and the
+//! directories that are refused.
 ghost use Rattle.std.specs.Prelude.{◌≡◌, false, IfOk};
 
 use super::*;

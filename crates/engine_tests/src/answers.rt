@@ -1,3 +1,3 @@
-//! Tests of what the program returns, by the calls that `cmd_answer` hands out.
+//! Tests of the program's texts and stops, through the public calls of `cmd_answer`.
 mod examples;
 mod inputs;

@@ -1,5 +1,5 @@
-//! What the calls of the engine answer: of each entry its outcome, and where any one allocation is refused. What
-//! entries come to is shown by runs of the program: the rows of `gateway`, `examples/rules` and
+//! Tests of the engine's calls: the outcome of each entry, and the results where any single allocation is refused. The
+//! effects of entries are tested by runs of the program: the rows of `gateway`, `examples/rules` and
 //! `examples/custom-notices`.
 mod examples;
 mod memory;
@@ -26,7 +26,7 @@ const WEB: &[&[u8]] = &[
 /// A host and a service without letters, so that no notice is due.
 const SILENT: &[&[u8]] = &[b"host;web;3;0;;", b"service;web;http;3;0;;"];
 
-/// These lines as a text.
+/// The text of these lines.
 fn text_of(alloc: Global, lines: &[&[u8]]) -> Result<Vec<u8>, Memory> {
     let mut text = Vec::new(alloc);
     for line in lines {
@@ -51,7 +51,7 @@ fn inventory_of(rt: &impl Abort, alloc: Global, lines: &[&[u8]]) -> Result<Inven
     }
 }
 
-/// Appends a line of a feed as a journal has it, an entry of sender 0.
+/// Appends a line of a feed as a line of a journal, an entry of sender 0.
 fn put_entry(alloc: Global, text: &mut Vec<u8>, place: u8, line: &[u8]) -> Result<(), Memory> {
     text.extend_from_slice(format!(in alloc; "0 {place} ")?.as_bytes())?;
     text.extend_from_slice(line)?;
@@ -59,7 +59,7 @@ fn put_entry(alloc: Global, text: &mut Vec<u8>, place: u8, line: &[u8]) -> Resul
     Ok(())
 }
 
-/// The lines of a feed as a journal has them.
+/// The lines of a feed as lines of a journal.
 fn journal_text(alloc: Global, feed: &[u8]) -> Result<Vec<u8>, Memory> {
     let mut text = Vec::new(alloc);
     for (place, line) in (1..=99u8).zip(feed.split(|byte| *byte == b'\n')) {
@@ -96,7 +96,7 @@ fn first_monitor(rt: &impl Abort, alloc: Global, inventory: &[&[u8]]) -> Result<
     Monitor::new(alloc, inventory)
 }
 
-/// The monitor that a journal means.
+/// The monitor after the entries of a journal.
 fn replayed(
     rt: &impl Abort,
     alloc: Global,
@@ -129,12 +129,12 @@ fn append_state(rt: &impl Abort, monitor: &Monitor, out: &mut Vec<u8>) -> Result
     write_state(monitor, out)
 }
 
-/// What was found is what is wanted, under this name.
+/// Asserts that `found` is `wanted`, under this name.
 fn compare(rt: &impl Abort, name: &str, found: &[u8], wanted: &[u8]) {
     assert_eq!(rt; found, wanted, "{name}");
 }
 
-/// Applies an entry of a few.
+/// Applies one of a few entries.
 fn apply(
     rt: &impl Abort,
     alloc: Global,
@@ -156,14 +156,14 @@ const OUTCOMES: &[Outcome] = &[
     Outcome::Rejected(Reason::NoSuchComment),
 ];
 
-/// These outcomes are what becomes of the entries, in order.
+/// Asserts the outcomes of the entries, in order.
 fn check_outcomes(rt: &impl Abort, alloc: Global, monitor: &mut Monitor, entries: &[Entry]) {
     for (entry, outcome) in entries.iter().zip(OUTCOMES) {
         assert!(rt; apply(rt, alloc, monitor, entry) == Ok(*outcome));
     }
 }
 
-/// What becomes of each entry of a journal, in order.
+/// The outcome of each entry of a journal, in order.
 #[test]
 fn outcomes(rt: HostRuntime) -> Result<(), Fail> {
     let alloc = rt.alloc();

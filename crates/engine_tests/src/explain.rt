@@ -1,5 +1,5 @@
-//! Tests of the words for lines, by the calls that `cmd_explain` hands out. What is expected is what docs/profile.md
-//! says.
+//! Tests of the words for lines, through the public calls of `cmd_explain`. The expected words are those of
+//! docs/profile.md.
 mod causes;
 mod ends;
 mod examples;
@@ -202,7 +202,7 @@ fn text_of(alloc: Global, lines: &[&str]) -> Result<Vec<u8>, Fail> {
     Ok(text)
 }
 
-/// Each of these lines has its meaning behind it.
+/// Asserts that each of these lines is followed by its meaning.
 fn expect_meanings(rt: &(impl Abort + AllocGlobal), rows: &[LineMeaning]) -> Result<(), Fail> {
     let alloc = rt.alloc();
     for (line, meaning) in rows {
@@ -249,7 +249,7 @@ fn other_lines_are_left(rt: HostRuntime) -> Result<(), Fail> {
     Ok(())
 }
 
-/// Words, what is printed for them, and the status.
+/// Words, the text that is printed for them, and the status.
 const WORDS: &[(&[&str], &str, u8)] = &[
     (
         &["gateway:", "usage"],

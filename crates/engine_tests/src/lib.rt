@@ -1,6 +1,6 @@
-//! Tests of the monitor as a whole, of the program's options and words, of what a run returns and of what the program
-//! does, by the calls that `mon_engine`, `cmd_options`, `cmd_words`, `cmd_run`, `cmd_answer` and `cmd_explain` hand
-//! out.
+//! Tests of the monitor as a whole, of the program's options and words, of the results of a run and of the program's
+//! texts, through the public calls of `mon_engine`, `cmd_options`, `cmd_words`, `cmd_run`, `cmd_answer` and
+//! `cmd_explain`.
 #![tactic(auto)]
 
 #[cfg(test)]

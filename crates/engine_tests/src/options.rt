@@ -1,9 +1,9 @@
-//! Tests of what the program is asked, by the calls that `cmd_options` hands out.
+//! Tests of the program's options, through the public calls of `cmd_options`.
 mod examples;
 
 use cmd_options::{Asked, MOST_READS, Options, RunOptions};
 
-/// Options of a run of which nothing but the report is asked.
+/// Options of a run that ask for nothing but the report.
 pub const OPTIONS: Options = Options {
     run: RunOptions {
         capacity: 64,

@@ -1,2 +1,2 @@
-//! Tests of what a run returns, by the calls that `cmd_run` hands out.
+//! Tests of the results of a run, through the public calls of `cmd_run`.
 mod examples;

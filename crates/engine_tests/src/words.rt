@@ -1,4 +1,4 @@
-//! Tests of the words of the program, by the calls that `cmd_words` hands out.
+//! Tests of the words of the program, through the public calls of `cmd_words`.
 mod examples;
 mod followed;
 
@@ -7,8 +7,8 @@ use cmd_words::{WordsFault, mode_of, state_to_replay_of};
 use std::alloc::AllocGlobal;
 use std::process::Abort;
 
-/// Words of a bundle, and the capacity, the piece and the limit that they give, and whether the
-/// figures and the journal are asked for.
+/// Words of a bundle, the capacity, the piece and the limit that they set, and whether they ask for the figures and the
+/// journal.
 const BUNDLES: &[(&[&str], usize, usize, u32, (bool, bool))] = &[
     (&[], 64, 4_096, 1_000_000, (false, false)),
     (&["bundle"], 64, 4_096, 1_000_000, (false, false)),
@@ -53,7 +53,7 @@ const BUNDLES: &[(&[&str], usize, usize, u32, (bool, bool))] = &[
     ),
 ];
 
-/// The words give this mode.
+/// Asserts that the words name this mode.
 fn expect_mode(rt: &(impl Abort + AllocGlobal), words: &[&str], mode: Mode) {
     assert!(rt; mode_of(rt.alloc(), words) == Ok(mode), "{words:?}");
 }
@@ -77,7 +77,7 @@ fn bundles(rt: HostRuntime) {
     }
 }
 
-/// Words of a replay, and the limit that they give.
+/// Words of a replay, and the limit that they set.
 const REPLAYS: &[(&[&str], u32)] = &[
     (&["replay"], 1_000_000),
     (&["replay", "--limit", "7"], 7),

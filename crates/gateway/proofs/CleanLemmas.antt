@@ -1,17 +1,17 @@
--- Feeds that are whole and of which no line was refused.
+-- Feeds that are whole and without a refused line.
 use Rattle.std.proofs.Common.{◌≡◌, Bool, true, false, ◌&&◌, List, [], ◌∷◌, map, ap, ◌∙◌, refl}
 use Rattle.std.specs.List.{list_all}
 use Rattle.cmd_run.specs.declared.ending.SenderReport.{SenderReport}
 use Rattle.cmd_answer.specs.Printed.{is_whole}
 
--- two tests of two things
+-- the order of four tests does not matter
 and_swap : (a b c d : Bool) → ((a && b) && (c && d)) ≡ ((a && c) && (b && d))
 and_swap false b c d = refl
 and_swap true true c d = refl
 and_swap true false true d = refl
 and_swap true false false d = refl
 
--- each feed is whole and clean where each is whole and each is clean
+-- all feeds are whole and clean where all are whole and all are clean
 pub whole_and_clean : {F : Type 0} (report : F → SenderReport) (clean : F → Bool) (feeds : List F) → list_all (λ f. is_whole (report f).ending && clean f) feeds ≡ (list_all (λ r. is_whole r.ending) (map report feeds) && list_all (λ c. c) (map clean feeds))
 whole_and_clean report clean [] = refl
 whole_and_clean report clean (f ∷ feeds) =

@@ -1,4 +1,4 @@
--- What a run over memory reports of its feeds is what their texts spell, and what is printed for a run.
+-- A run over memory reports the commands that the texts of its feeds spell; and the text that is printed for a run.
 use Rattle.std.proofs.Common.{◌≡◌, ◌↔◌, inl, inr, ⊎_elim, ℕ, zero, suc, ◌+◌, ◌*◌, ◌<◌, ◌≤◌, Bool, true, false, ◌&&◌, List, [], ◌∷◌, ◌++◌, length, map, get_or, Option, Some, None, Result, Ok, Err, slice_get, if◌then◌else◌, refl, ap, sym, ◌∙◌, subst, arith, length-append}
 use Rattle.std.specs.List.{list_all}
 use Rattle.std.specs.Prelude.{IfOk, IfErr}
@@ -40,7 +40,7 @@ use Rattle.cmd_answer.specs.Bundles.{IsBundle}
 use Rattle.cmd_answer.specs.Files.{IsInFile}
 use Rattle.gateway.proofs.WatchedLemmas.{published_of, behind_itself}
 
--- a reader over a short feed can have ended in one way alone
+-- a reader over a short feed can have only one ending
 whole_feed : (piece : ℕ) (feed text : List ℕ) (e : Ending) → IsDelivered (Some feed) piece MOST_READS text → length feed + piece ≤ MOST_READS * piece → IsEnded (Some feed) false true piece MOST_READS text e → (e ≡ Whole) × (text ≡ feed)
 whole_feed piece feed text Whole d short h = (refl, h)
 whole_feed piece feed text ReadFailed d short h = absurd (cc)
@@ -53,7 +53,7 @@ whole_feed piece feed text TooManyReads d short h =
 whole_feed piece feed text Memory d short h = absurd h
 whole_feed piece feed text QueueRefused d short h = absurd h
 
--- so this is said of it
+-- the report of such a feed
 record IsReportOf (k : ℕ) (feed : List ℕ) (journal : List Entry) (r : SenderReport) : Type 0 where
   ending : r.ending ≡ Whole
   accepted : r.accepted ≡ length (commands_of feed)
@@ -75,7 +75,7 @@ reported_feed piece k feed journal r short t =
       journaled = t.journaled ∙ ap (λ (is : List Item). entries_of k (commands is)) same;
     }
 
--- of each of these feeds, the first being feed n
+-- the same for each of these feeds, the first of which is feed n
 abbrev pub AreReportsFrom : (piece : ℕ) → ℕ → List (List ℕ) → List Entry → List SenderReport → Type 0
 AreReportsFrom piece n feeds journal reports =
     (k : ℕ) (f : List ℕ) (r : SenderReport) → k < length feeds → IsReported (in_memory piece (get_or feeds k f)) (n + k) journal (get_or reports k r)
@@ -132,13 +132,13 @@ each_reported piece feeds journal (r ∷ reports) short many t k feed e =
     subst (λ (m : ℕ). IsReported (in_memory piece (get_or feeds k feed)) m journal (get_or (r ∷ reports) k r)) first (t k feed r (slice_get_within feeds k feed e)) in
     (reported_feed piece k feed journal (get_or (r ∷ reports) k r) (short_at piece feeds k feed short e) (subst (λ (f : List ℕ). IsReported (in_memory piece f) k journal (get_or (r ∷ reports) k r)) is here)).journaled
 
--- the journal of one feed is its list
+-- the journal of a single feed is the feed's list of commands
 alone_is : (feeds : List (List ℕ)) (journal : List Entry) → (length feeds ≡ 1 → of_sender 0 journal ≡ journal)
     → ((k : ℕ) (feed : List ℕ) → slice_get feeds k ≡ Some feed → of_sender k journal ≡ entries_of k (commands_of feed))
     → (feed : List ℕ) → feeds ≡ feed ∷ [] → journal ≡ entries_of 0 (commands_of feed)
 alone_is feeds journal one each feed is = sym (one (ap length is)) ∙ each 0 feed (ap (λ (fs : List (List ℕ)). slice_get fs 0) is)
 
--- where each feed is short, what a run over them is printed as is what they mean
+-- where each feed is short, the text printed for a run over them is the text for the feeds
 pub printed_feeds : (options : Options) (inv : Configuration) (feeds : List (List ℕ)) (text : List ℕ) (status : ℕ) → options.run.reads ≡ MOST_READS
     → HasReport (sources Some (λ _. false) (λ _. true) options.run feeds) options inv text status → AreShort options.run.piece feeds → IsPrinted options.asked options.run.limit inv feeds text status
 printed_feeds options inv feeds text status most r short =
@@ -160,16 +160,16 @@ printed_feeds options inv feeds text status most r short =
       status_is = r.status_is ∙ ap (λ (b : Bool). if b then 0 else 1) (clean_same options.run.piece 0 feeds r.entries r.reports short one_each remaining);
     }
 
--- ---- the answer to feeds that were run
+-- ---- the text and the status for feeds that were run
 
--- what a run is printed as, where its monitor holds what its journal means
+-- the text printed for a run whose monitor holds what its journal means
 held_text : (journal_asked : Bool) (inv : Configuration) (journal : List Entry) (monitor : Held) (reports : List SenderReport) (seen shown : Option Figures) → Means inv journal monitor → seen ≡ shown
     → run_text (report monitor.inventory monitor.world) journal_asked reports seen journal ≡ run_text (report inv (meaning inv journal)) journal_asked reports shown journal
 held_text journal_asked inv journal monitor reports seen shown means same =
     ap (λ (first : List ℕ). run_text first journal_asked reports seen journal) (ap (λ (i : Configuration). report i monitor.world) means.inventory ∙ ap (report inv) means.world)
     ∙ ap (λ (x : Option Figures). run_text (report inv (meaning inv journal)) journal_asked reports x journal) same
 
--- what is printed for a run answers its feeds
+-- the text printed for a run is a text for its feeds
 pub answered : (fed : List Source) (feeds : ℕ) (options : Options) (inv : Configuration) (run : Result RunReport RunFault) (watched : Option Watched) (text : List ℕ) (status : ℕ) → length fed ≡ feeds
     → IfOk run (λ r. HasRun (record { sources = fed; limit = options.run.limit; inventory = inv }) (outcome r))
     → IfErr run (λ e. (e.cause ≡ BadOptions) ↔ (MayRun feeds options.run → ⊥))
@@ -247,21 +247,21 @@ module _ (fed : List Source) (options : Options) (inv : Configuration) (es none 
         },
       )
 
--- ---- from the readers to what they deliver
+-- ---- from the readers to the bytes that they deliver
 
--- readers that are known by what they are taken for are read as that is
+-- readers whose facts come from the values `h` of them are read as these values are
 sources_as : {F G : Type 0} (h : F → G) (remaining : G → Option (List ℕ)) (fails fills : G → Bool) (options : RunOptions) (readers : List F)
     → sources (λ f. remaining (h f)) (λ f. fails (h f)) (λ f. fills (h f)) options readers ≡ sources remaining fails fills options (map h readers)
 sources_as h remaining fails fills options readers = sym (map-map (read_as remaining fails fills options) h readers)
 
--- so the answer to readers is the answer to what they are taken for
+-- so the text and the status for the readers are those for these values
 pub answers_as : {F G : Type 0} (h : F → G) (remaining : G → Option (List ℕ)) (fails fills : G → Bool) (readers : List F) (options : Options) (inv : Configuration) (text : List ℕ) (status : ℕ)
     → AnswersFeeds (sources (λ f. remaining (h f)) (λ f. fails (h f)) (λ f. fills (h f)) options.run readers) options inv text status → AnswersFeeds (sources remaining fails fills options.run (map h readers)) options inv text status
 answers_as h remaining fails fills readers options inv text status = subst (λ (ss : List Source). AnswersFeeds ss options inv text status) (sources_as h remaining fails fills options.run readers)
 
--- ---- the answer to a bundle
+-- ---- the text and the status for a bundle
 
--- the answer to its feeds answers a bundle
+-- the text and the status for its feeds are those for the bundle
 pub answered_bundle : (options : Options) (input : List ℕ) (feeds : List (List ℕ)) (inv : Configuration) (text : List ℕ) (status : ℕ)
     → options.run.reads ≡ MOST_READS → IsBundle input inv feeds → AnswersFeeds (sources Some (λ _. false) (λ _. true) options.run feeds) options inv text status → Answers options input text status
 answered_bundle options input feeds inv text status most is ran =
@@ -271,7 +271,7 @@ answered_bundle options input feeds inv text status most is ran =
     printed_so (inl r) low = printed_feeds options inv feeds text status most r
     printed_so (inr r) low = absurd (omega (arith, r.0, low))
 
--- ---- the answer to feeds in files
+-- ---- the text and the status for feeds in files
 
 pub answered_files : {F G : Type 0} (file : F → G) (remaining : G → Option (List ℕ)) (readers : List F) (options : Options) (feeds : ℕ) (inv : Configuration) (text : List ℕ) (status : ℕ)
     → IsInFile remaining inv → length (map file readers) ≡ feeds → IsSenderCount feeds

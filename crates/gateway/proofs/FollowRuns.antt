@@ -1,4 +1,4 @@
--- A run of the program's feeds is one of readers of which nothing is known.
+-- A run of the program's feeds is a run of readers of which nothing is known.
 use Rattle.std.proofs.Common.{◌≡◌, inl, inr, ℕ, zero, suc, ◌+◌, ◌<◌, Bool, true, false, List, [], ◌∷◌, length, map, get_or, Option, Some, None, refl, Result, Ok, Err, IfErr, OnErr, ap, sym, ◌∙◌, subst, arith}
 use Rattle.std.proofs.lemmas.List.{append-nil, length-map, length-replicate, get_or-map}
 use Rattle.std.proofs.lemmas.Simd.{splat_is_map}
@@ -21,12 +21,12 @@ use Rattle.cmd_live.specs.Runs.{count_with}
 use Rattle.gateway.specs.Followed.{all_feeds, given_feeds, with_clock, clock_after, are_clean, followed_status, run_stop, run_of, HasFollowedCall, HasFailedCall, lines_due}
 use Rattle.gateway.proofs.EndLemmas.{due_of_given}
 
--- one of them
+-- the reader at this index
 one_of : {F : Type 0} (readers : List F) (k : ℕ) → k < length readers → F
 one_of [] k h = absurd (omega (arith, h))
 one_of (f ∷ readers) k h = f
 
--- what was refused of a feed may be said in other words
+-- the refused lines of a feed may be stated by another property that follows
 reported_so : (source : Source) (k : ℕ) (journal : List Entry) (report : SenderReport) (P Q : List (ℕ × LineFault) → Type 0) → ((refused : List (ℕ × LineFault)) → P refused → Q refused) → IsReportedBy source k journal report P → IsReportedBy source k journal report Q
 reported_so source k journal report P Q says t = record {
   text = t.text;
@@ -78,18 +78,18 @@ stopped_so call clock before now cause reports P Q says (inl part) =
 stopped_so call clock before now cause reports P Q says (inr (inl none)) = inr (inl none)
 stopped_so call clock before now cause reports P Q says (inr (inr all)) = inr (inr (all.0, all.1, fed_so call.sources reports P Q says all.0 all.2, all.3, all.4))
 
--- readers of which nothing is known are what a call asks for, where there are so many
+-- readers of which nothing is known are those of a call, where their number is right
 as_asked : {F : Type 0} (call : FollowCall) (inv : Configuration) (readers : List F) → length readers ≡ all_feeds call → run_call (λ (_ : F). None) (λ _. true) (λ _. false) call.run readers inv ≡ run_of call inv
 as_asked call inv readers each =
     let unknown : Source = record { remaining = None; fails = true; fills = false; piece = call.run.piece; reads = call.run.reads } in
     λ i. record { sources = sym (splat_is_map readers (all_feeds call) unknown each) i; limit = call.run.limit; inventory = inv }
 
--- as many reports as feeds
+-- there are as many reports as feeds
 report_count : {A : Type 0} (feeds : List (FollowedFeed A)) → length (map (λ (f : FollowedFeed A). f.report) feeds) ≡ length feeds
 report_count {A = A} feeds = length-map feeds (λ (f : FollowedFeed A). f.report)
 
 module _ {A : Type 0} (clean : A → Bool) (has_taken : A → List (ℕ × LineFault) → Type 0) (says : (a : A) (refused : List (ℕ × LineFault)) → has_taken a refused → clean a ≡ refuses_none refused) where
-  -- whether any line of a feed was refused is what its attendant knows
+  -- the attendant of a feed knows whether any line of the feed was refused
   clean_at : (feeds : List (FollowedFeed A)) (k : ℕ) (refused : List (ℕ × LineFault)) → k < length (map (λ (f : FollowedFeed A). f.report) feeds) → attended_at has_taken feeds k refused → are_clean (map (λ (f : FollowedFeed A). clean f.attendant) feeds) k refused
   clean_at feeds k refused h told = λ c.
       (let within : k < length feeds = omega (arith, h, report_count feeds) in
@@ -118,7 +118,7 @@ module _ {A : Type 0} (clean : A → Bool) (has_taken : A → List (ℕ × LineF
         status_is = status_is ∙ ap (λ (fs : List (FollowedFeed A)). followed_status (map (λ (f : FollowedFeed A). f.report) fs) (map (λ (f : FollowedFeed A). clean f.attendant) fs)) same_feeds;
       }
 
-  -- one that failed
+  -- a run that failed
   pub call_failed : {F : Type 0} (call : FollowCall) (inv : Configuration) (clock : Option ℕ) (before now : Option (List ℕ)) (readers : List F) (cause : RunCause) (feeds : List (FollowedFeed A))
       → length readers ≡ all_feeds call → clock ≡ clock_after call.following.clock (given_feeds call)
       → HasStopped (run_call (λ (_ : F). None) (λ _. true) (λ _. false) call.run readers inv) clock before now cause (map (λ (f : FollowedFeed A). f.report) feeds) (attended_at has_taken feeds)
@@ -135,7 +135,7 @@ module _ {A : Type 0} (clean : A → Bool) (has_taken : A → List (ℕ × LineF
         stop_is = refl;
       }
 
--- one that was not started, out of memory
+-- a run that was not started, because memory ran out
 pub call_unstarted : (call : FollowCall) (inv : Configuration) (known : Option (List ℕ)) → HasFailedCall call inv known known (run_stop Memory)
 call_unstarted call inv known = record {
   cause = Memory;
@@ -147,14 +147,14 @@ call_unstarted call inv known = record {
 
 -- ---- the clock
 
--- it is one feed more than those that were given
+-- the clock feed is one more feed than those that the call names
 pub count_is : (seconds given n : ℕ) (clock : Option ℕ) → clock ≡ clock_after seconds given → n ≡ given → count_with clock n ≡ with_clock seconds given
 count_is zero given n clock is same = ap (λ (c : Option ℕ). count_with c n) is ∙ same
 count_is (suc seconds) given n clock is same = ap (λ (c : Option ℕ). count_with c n) is ∙ ap (λ (m : ℕ). m + 1) same
 
 -- ---- streams
 
--- where nothing was printed nothing was appended
+-- where nothing was printed, nothing was appended
 pub none_taken : {S : Type 0} (contents : S → Option (List ℕ)) (first now : S) → first ≡ now → Appends (contents first) (contents now) []
 none_taken contents first now is = subst (λ s. Appends (contents first) (contents s) []) is (appends_none (contents first))
   where
@@ -162,7 +162,7 @@ none_taken contents first now is = subst (λ s. Appends (contents first) (conten
     appends_none None = tt
     appends_none (Some text) = sym (append-nil text)
 
--- why lines were not taken
+-- the reason for which lines were not taken
 pub cut_so : {X S : Type 0} (r : Result X S) (s : S) (P : Type 0) (Q : S → Type 0) → IfErr r (λ e. e ≡ s) → OnErr r P → (P → Q s) → IfErr r Q
 cut_so (Ok x) s P Q is p f = tt
 cut_so (Err e) s P Q is p f = subst Q (sym is) (f p)

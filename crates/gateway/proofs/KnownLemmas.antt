@@ -1,4 +1,4 @@
--- What is known of each feed, one feed after another, and the feeds that begin anew.
+-- The journaled commands of each feed, one feed after another, and the feeds that begin anew.
 use Rattle.std.proofs.Common.{arith, ◌≡◌, ℕ, ◌+◌, ◌-◌, ◌≤◌, ◌<◌, inl, inr, zero, suc, true, false, List, [], ◌∷◌, ◌++◌, length, drop, get_or, Option, Some, None, refl, sym, ap, ◌∙◌, subst, append_assoc}
 use Rattle.std.specs.Prelude.{slice_get}
 use Rattle.std.proofs.lemmas.List.{at_drop_more, at_drop_all, length-set}
@@ -14,14 +14,14 @@ module _ (clock : Option ℕ) (list : List KeptFeed) (k : ℕ) (f : KeptFeed) (a
   from_here : known_from clock k (drop k list) ≡ known_from clock k (f ∷ drop (k + 1) list)
   from_here = at_drop_more (known_from clock k) list k f low ∙ ap (λ (g : KeptFeed). known_from clock k (g ∷ drop (k + 1) list)) own
 
-  -- the feed of this number is another than the clock feed
+  -- the feed of this number is not the clock feed
   pub known_more : (x : ℕ × List ℕ) → is_clock clock k ≡ false → x ≡ (f.journaled - f.earlier, f.last) → front ++ known_from clock k (drop k list) ≡ all → (front ++ x ∷ []) ++ known_from clock (k + 1) (drop (k + 1) list) ≡ all
   known_more x other is so_far =
       let later = known_from clock (k + 1) (drop (k + 1) list) in
       let here : known_from clock k (f ∷ drop (k + 1) list) ≡ (f.journaled - f.earlier, f.last) ∷ later = rw other refl in
       append_assoc front (x ∷ []) later ∙ ap (λ (y : ℕ × List ℕ). front ++ y ∷ later) is ∙ ap (λ (l : List (ℕ × List ℕ)). front ++ l) (sym (from_here ∙ here)) ∙ so_far
 
-  -- it is the clock feed
+  -- the feed of this number is the clock feed
   known_clock : is_clock clock k ≡ true → front ++ known_from clock k (drop k list) ≡ all → front ++ known_from clock (k + 1) (drop (k + 1) list) ≡ all
   known_clock clocked so_far =
       let here : known_from clock k (f ∷ drop (k + 1) list) ≡ known_from clock (k + 1) (drop (k + 1) list) = rw clocked refl in
@@ -35,7 +35,7 @@ known_same clock list k all front low clocked so_far = elim (slice_get_cases lis
 
 -- ---- feeds that begin anew
 
--- they are as many
+-- the number of feeds is unchanged
 pub as_many : (number : ℕ) (feeds : List KeptFeed) → length (begun_anew number feeds) ≡ length feeds
 as_many number feeds = by_feed (slice_get feeds number)
   where
@@ -70,7 +70,7 @@ module _ (numbers : List ℕ) (starts : List Start) (k n : ℕ) (feeds : List Ke
       none_some : None ≡ Some Anew → ⊥
       none_some e = cc
 
-  -- it is the same file, or nothing is known of it
+  -- the feed of this gate is the same file, or nothing is known of it
   pub renew_same : (slice_get starts k ≡ Some Anew → ⊥) → renewed (drop k numbers) (drop k starts) feeds ≡ renewed (drop (k + 1) numbers) (drop (k + 1) starts) feeds
   renew_same other = elim (slice_get_cases starts k).1 [
     | inl here ↦ by_start here.0 here.1 here.2 here.3
@@ -81,7 +81,7 @@ module _ (numbers : List ℕ) (starts : List Start) (k n : ℕ) (feeds : List Ke
       by_start (Behind bytes lines) within at is = start_here (Behind bytes lines) within is
       by_start Anew within at is = absurd (other at)
 
--- whatever stands for a number that is not there
+-- the default of a look-up within the list does not matter
 pub get_own : (numbers : List ℕ) (k : ℕ) → k < length numbers → get_or numbers k (get_or numbers k 0) ≡ get_or numbers k 0
 get_own [] k low = absurd (omega arith)
 get_own (n ∷ numbers) zero low = refl

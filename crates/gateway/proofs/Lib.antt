@@ -1,4 +1,4 @@
--- The lemmas of the program.
+-- Lemmas of the program, a file a subject.
 pub mod FeedLemmas
 pub mod WatchedLemmas
 pub mod ServeLemmas

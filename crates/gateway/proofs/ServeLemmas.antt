@@ -1,4 +1,4 @@
--- How what a part of the program came to is what the program promises.
+-- The results of the program's parts are those that the program promises.
 use Rattle.std.proofs.Common.{◌≡◌, refl, inr, List, ℕ, Option, Some, None, IfSome, true, false, ap}
 use Rattle.std.specs.Io.KnownBytes.{Appends, Keeps}
 use Rattle.cmd_answer.specs.declared.stop.FilesStop.{FilesStop}
@@ -11,7 +11,8 @@ use Rattle.cmd_answer.specs.Written.{AppendsPart}
 use Rattle.gateway.specs.Modes.{Streams, streams, HasStoppedBy, IsServed}
 use Rattle.cmd_answer.specs.Stops.{files_stop_line, files_stop_status}
 
--- a stop whose line was printed, and before which at most a beginning of what was due was put out, ends a mode over an input whose bytes are known
+-- a stop whose line was printed, with at most a prefix of the due text printed before it, ends a mode over an input
+-- whose bytes are known
 pub stops_over : (input : Option (List ℕ)) (Answered : List ℕ → List ℕ → ℕ → Type 0) (Stops : List ℕ → FilesStop → Type 0) (stop : Stop) (e : Ended) (s : Streams)
     → IfSome input (λ told. Stops told (Other stop)) → e.status ≡ files_stop_status (Other stop) → ((stop ≡ Output → ⊥) → Keeps s.output s.output_now)
     → (stop ≡ Output → IfSome input (λ told. (text : List ℕ) × ((status : ℕ) × Answered told text status) × AppendsPart s.output s.output_now text))
@@ -24,7 +25,7 @@ stops_over (Some told) Answered Stops stop e s why status nothing cut line part 
     output : Other stop ≡ Other Output → stop ≡ Output
     output is = cc
 
--- a stream that nothing was written to
+-- a stream to which nothing was written
 pub keeps_same : (known : Option (List ℕ)) → Keeps known known
 keeps_same None = tt
 keeps_same (Some text) = refl
@@ -36,7 +37,7 @@ pub stops_said : (said : List ℕ) (Due : List ℕ → Type 0) (stop : FilesStop
 stops_said said Due stop e known errors told other status line part =
     record { status_is = status; nothing = λ _. keeps_same known; cut_off = λ is. absurd (other is); line = line; part = part }
 
--- a replay that was due has status 0
+-- a replay whose text was printed has status 0
 pub replay_due : (input : Option (List ℕ)) (limit : ℕ) (output put : Option (List ℕ)) → IfSome input (λ told. (text : List ℕ) × ReportsJournal limit told text × AppendsPart output put text)
     → IfSome input (λ told. (text : List ℕ) × ((status : ℕ) × (ReportsJournal limit told text × (status ≡ 0))) × AppendsPart output put text)
 replay_due None limit output put h = tt

@@ -1,4 +1,4 @@
--- How a run was watched: the figures that are seen at its end are those of what was published of it.
+-- The watch of a run: the figures that a reader sees at its end are those of the list that the run published.
 use Rattle.std.proofs.Common.{◌≡◌, inl, List, [], ◌∷◌, ◌++◌, ◌≤◌, length, append-nil, length-append, arith, Option, Some, None, Result, Ok, Err, IfOk, Bool, true, false, refl, sym, ap, ◌∙◌, subst, ℕ}
 use Rattle.cmd_types.specs.declared.entry.Entry.{Entry}
 use Rattle.mon_inventory.specs.Configuration.{Configuration}
@@ -22,14 +22,14 @@ nothing_more : (list a b : List Entry) → list ≡ (list ++ a) ++ b → a ≡ [
 nothing_more list [] b is = refl
 nothing_more list (x ∷ a) b is = absurd (omega (arith, ap length is, length-append (list ++ x ∷ a) b, length-append list (x ∷ a)))
 
--- a reader that had seen all, and whose last look is of what is published, has seen all again
+-- a reader that had seen the published list, and looks again, has seen the same list
 pub seen_all : (before after published : List Entry) → before ≡ published → BeginsWith after before → BeginsWith published after → after ≡ published
 seen_all before after published is more less =
     let one : after ≡ published ++ more.0 = more.1 ∙ ap (λ (l : List Entry). l ++ more.0) is in
     let both : published ≡ (published ++ more.0) ++ less.0 = less.1 ∙ ap (λ (l : List Entry). l ++ less.0) one in
     one ∙ ap (λ (l : List Entry). published ++ l) (nothing_more published more.0 less.0 both) ∙ append-nil published
 
--- all that was journaled was published
+-- where the journal itself was published, the published list is as required after a fault
 pub behind_itself : (c : RunCause) (journal : List Entry) → IsBehind c journal journal
 behind_itself cause.BadOptions journal = refl
 behind_itself cause.Memory journal = inl refl
@@ -39,7 +39,7 @@ behind_itself cause.QueueLost journal = refl
 behind_itself (cause.SenderStopped k) journal = refl
 behind_itself cause.Output journal = refl
 
--- the figures that are printed are those of a list that was published of the run
+-- the printed figures are those of a list that the run published
 pub published_of : (asked : Bool) (inv : Configuration) (run : Result RunReport RunFault) (watched : Option Watched) → IsWatched asked inv run watched
     → (published : List Entry) × IsPublished run published × (figures_in watched ≡ figures_of asked inv published)
 published_of true inv run (Some w) h = (w.board.published, h.1, ap Some h.2)
@@ -48,7 +48,7 @@ published_of false inv run (Some w) h = absurd h
 published_of false inv (Ok r) None h = (r.journal.entries, refl, refl)
 published_of false inv (Err e) None h = (e.journal.entries, behind_itself e.cause e.journal.entries, refl)
 
--- what is said of a run clause by clause is that it has run
+-- the clauses of a run that has a report are together `HasRun`
 pub has_run : (call : RunCall) (readers : ℕ) (run : Result RunReport RunFault) → length call.sources ≡ readers
     → IfOk run (λ r. entries r.settled.list ≡ r.journal.entries) → IfOk run (λ r. r.settled.senders ≡ readers) → IfOk run (λ r. HaveClosedWith readers r.journal.entries r.senders.items r.settled)
     → IfOk run (λ r. length r.journal.entries ≤ call.limit) → IfOk run (λ r. readers ≡ 1 → of_sender 0 r.journal.entries ≡ r.journal.entries) → IfOk run (λ r. AreReported call.sources r.journal.entries r.senders.items)

@@ -1,4 +1,4 @@
--- The answers to feeds that were run, to a bundle and to feeds in files: the text that is printed, and the status.
+-- The text that is printed, and the status, for feeds that were run, for a bundle and for feeds in files.
 use Rattle.std.specs.Prelude.{◌≡◌, ◌≤◌, ◌+◌, ◌*◌, ◌⊎◌, ◌↔◌, ℕ, Bool, true, false, List, [], ◌∷◌, length, Option, Some, Result, MatchResult}
 use Rattle.cmd_types.specs.declared.entry.Entry.{Entry}
 use Rattle.cmd_types.specs.Entries.{IsSenderCount}
@@ -24,10 +24,10 @@ use Rattle.cmd_answer.specs.Bundles.{IsBundle}
 use Rattle.cmd_answer.specs.Files.{IsInFile}
 use Rattle.cmd_answer.specs.Printed.{run_text, fault_line, sender_status, IsPrinted, figures_of}
 
--- ---- feeds that were run, each of what its reader delivers
+-- ---- feeds that were run, by the bytes that their readers deliver
 
 -- The journal restricted to each feed is exactly the commands of the text that its reader delivered, in order and each
--- once; the text is the report of what the journal means, and what the feeds reported
+-- once; the printed text is the report of the state to which the journal leads, and the lines on the feeds
 pub record HasReport (fed : List Source) (options : Options) (inv : Configuration) (text : List ℕ) (status : ℕ) : Type 0 where
   pub entries : List Entry
   pub reports : List SenderReport
@@ -40,7 +40,7 @@ pub record HasReport (fed : List Source) (options : Options) (inv : Configuratio
   pub status_is : status ≡ sender_status reports
 
 -- The run failed: the line of its cause comes instead of the report, the figures are those of the published list, and
--- the journal is the one of the fault
+-- the journal is that of the fault
 pub record HasFault (fed : List Source) (options : Options) (inv : Configuration) (text : List ℕ) : Type 0 where
   pub cause : RunCause
   pub entries : List Entry
@@ -57,12 +57,13 @@ AnswersFeeds fed options inv text status = HasReport fed options inv text status
 
 -- ---- a bundle
 
--- each feed is at its end before the last read of a run, which reads pieces of so many bytes
+-- each feed is at its end before the last read of a run that reads pieces of `piece` bytes
 abbrev pub AreShort : (piece : ℕ) → List (List ℕ) → Type 0
 AreShort piece [] = Unit {0}
 AreShort piece (feed ∷ feeds) = (length feed + piece ≤ MOST_READS * piece) × AreShort piece feeds
 
--- The text to be printed for a bundle and the status. With status 0 or 1 it is what the feeds mean, where each is short
+-- The text to be printed for a bundle, and the status. With status 0 or 1 it is the text for the feeds, where each feed
+-- is short
 pub record Answers (options : Options) (input text : List ℕ) (status : ℕ) : Type 0 where
   pub configuration : Configuration
   pub feeds : List (List ℕ)
@@ -73,8 +74,8 @@ pub record Answers (options : Options) (input text : List ℕ) (status : ℕ) : 
 -- ---- feeds in files
 
 module _ {F : Type 0} where
-  -- The text and the status for an inventory in a file, all of which is read, and for feeds in files: `remaining` says what
-  -- bytes each file has, and each read may fail
+  -- The text and the status for an inventory in a file, which is read to its end, and for feeds in files: `remaining`
+  -- has the bytes of each file, where they are known, and each read may fail
   pub record AnswersFiles (remaining : F → Option (List ℕ)) (options : Options) (feeds : ℕ) (text : List ℕ) (status : ℕ) : Type 0 where
     pub configuration : Configuration
     pub inventory_is : IsInFile remaining configuration

@@ -22,7 +22,7 @@ use Rattle.cmd_answer.specs.Written.{AppendsPart}
 
 -- ---- the feeds
 
--- how many feeds there are, with the clock feed where there is one: 0 seconds between its commands switches it off
+-- the number of feeds, counting the clock feed if there is one: 0 seconds between its commands switches it off
 abbrev pub with_clock : (seconds given : ℕ) → ℕ
 with_clock zero given = given
 with_clock (suc seconds) given = given + 1
@@ -32,7 +32,7 @@ abbrev pub clock_after : (seconds given : ℕ) → Option ℕ
 clock_after zero given = None
 clock_after (suc seconds) given = Some given
 
--- how many feeds a call has: those that it names, and all with the clock feed
+-- the number of feeds that a call names, and the number of all its feeds with the clock feed
 abbrev pub given_feeds : FollowCall → ℕ
 given_feeds call = length call.feeds.items
 
@@ -41,7 +41,7 @@ all_feeds call = with_clock call.following.clock (given_feeds call)
 
 -- ---- lines
 
--- the lines on feeds that have ended, of which the first is feed k
+-- the lines on feeds that have ended, the first of which is feed k
 unfoldable pub ending_lines : (k : ℕ) → List SenderReport → List ℕ
 ending_lines k [] = []
 ending_lines k (r ∷ reports) = feed_line k r.accepted r.ending ++ ending_lines (k + 1) reports
@@ -62,11 +62,11 @@ run_stop c = stop.Fault (cause_number c) (cause_sender c)
 
 -- ---- a run
 
--- of each feed, whether none of its lines was refused
+-- for each feed, whether none of its lines was refused
 abbrev pub are_clean : List Bool → ℕ → List (ℕ × LineFault) → Type 0
 are_clean clean k refused = (c : Bool) → slice_index_or clean k c ≡ refuses_none refused
 
--- what a call that follows feeds asks of a run: of each feed nothing is known, and its reads may fail
+-- the arguments of the run of a call that follows feeds: nothing is known of each feed, and its reads may fail
 abbrev pub run_of : FollowCall → Configuration → RunCall
 run_of call inv = record {
   sources = replicate (all_feeds call) (record { remaining = None; fails = true; fills = false; piece = call.run.piece; reads = call.run.reads });
@@ -87,7 +87,7 @@ pub record HasFollowedCall (call : FollowCall) (inv : Configuration) (before tol
   pub lines_are : lines ≡ drained_lines call reports
   pub status_is : status ≡ followed_status reports clean
 
--- a run that failed: the output holds a beginning of the lines of the commands that were taken, as `HasStopped` says
+-- a run that failed: the output holds a prefix of the lines of the commands that were taken, as `HasStopped` says
 pub record HasFailedCall (call : FollowCall) (inv : Configuration) (before now : Option (List ℕ)) (s : Stop) : Type 0 where
   pub cause : RunCause
   pub reports : List SenderReport
@@ -104,7 +104,8 @@ pub record HasUnended (call : FollowCall) (inv : Configuration) (before now : Op
   pub ran : HasFollowedCall call inv before told lines status
   pub cut_off : ((s ≡ stop.Output) × AppendsPart told now lines) ⊎ ((s ≡ stop.Memory) × (now ≡ told))
 
--- the output after a run: the whole text that is due, with the status; or a part of it, with the stop that says why
+-- the output after a run: the whole text that is due, with the status; or a part of it, with the stop that gives the
+-- reason
 abbrev pub IsRun : FollowCall → Configuration → (before now : Option (List ℕ)) → (status : ℕ) → Type 0
 IsRun call inv before now status = (told : Option (List ℕ)) × (lines : List ℕ) × HasFollowedCall call inv before told lines status × Appends told now lines
 
@@ -117,11 +118,11 @@ IsRunCutOff call inv before now s = HasFailedCall call inv before now s ⊎ HasU
 abbrev pub end_line : (clock : Option ℕ) → (k : ℕ) → SenderReport → List ℕ
 end_line clock k r = if is_clock clock k then [] else feed_line k r.accepted r.ending
 
--- the lines on feeds of which the first is feed k, without the clock feed
+-- the lines on feeds, the first of which is feed k, without the clock feed
 unfoldable pub end_lines : (clock : Option ℕ) → (k : ℕ) → List SenderReport → List ℕ
 end_lines clock k [] = []
 end_lines clock k (r ∷ reports) = end_line clock k r ++ end_lines clock (k + 1) reports
 
--- the lines on all feeds of a run but the clock feed, where they are drained
+-- the lines on all feeds of a run except the clock feed, where feeds are drained
 abbrev pub lines_due : (drain : Bool) → (clock : Option ℕ) → List SenderReport → List ℕ
 lines_due drain clock reports = if drain then end_lines clock 0 reports else []

@@ -43,14 +43,14 @@ pub record Streams : Type 0 where
 abbrev pub streams : (output output_now errors errors_now : Option (List ℕ)) → Streams
 streams output output_now errors errors_now = record { output = output; output_now = output_now; errors = errors; errors_now = errors_now }
 
--- the text was appended to the output and nothing else, and nothing was written to the error stream, which is owed none
+-- the text was appended to the output and nothing else; nothing was written to the error stream, and `printed` is true
 pub record HasPut (text : List ℕ) (e : Ended) (s : Streams) : Type 0 where
   pub none_owed : e.printed ≡ true
   pub put : Appends s.output s.output_now text
   pub quiet : Keeps s.errors s.errors_now
 
--- Nothing was appended to the output, but where the output failed a beginning of a text that was due. The error stream
--- has this text on the stop, or a beginning of it where it did not take all of it
+-- Nothing was appended to the output, except that a failed output may have a prefix of a text that was due. The error
+-- stream has this text on the stop, or a prefix of it where the stream did not take the whole text
 pub record HasStoppedBy (said : List ℕ) (Due : (text : List ℕ) → Type 0) (stop : FilesStop) (e : Ended) (s : Streams) : Type 0 where
   pub status_is : e.status ≡ files_stop_status stop
   pub nothing : (stop ≡ Other Output → ⊥) → Keeps s.output s.output_now
@@ -64,20 +64,20 @@ HasStopped Due stop e s = HasStoppedBy (files_stop_line stop) Due stop e s
 
 -- ---- the modes
 
--- The words name no call: the error stream has the line of a wrong use, and behind it the usage of the mode that the first
--- word names, or of all modes; or memory ran out for the words
+-- The words name no call: the error stream has the line of a wrong use, followed by the usage of the mode that the
+-- first word names, or of all modes; or memory ran out for the words
 abbrev pub HasNoCall : Option ModeName → Ended → Streams → Type 0
 HasNoCall mode e s =
     HasStoppedBy (misuse_text (usage_of mode)) (λ text. ⊥) (Other Usage) e s
     ⊎ HasStopped (λ text. ⊥) (Other Memory) e s
 
--- the text that was asked for is in the output, with its status; or the program stopped for one of these reasons
+-- the text of the mode is in the output, with its status; or the program stopped for one of these reasons
 abbrev pub IsServed : (Answered : (text : List ℕ) → (status : ℕ) → Type 0) → (Stops : FilesStop → Type 0) → Ended → Streams → Type 0
 IsServed Answered Stops e s =
     ((text : List ℕ) × Answered text e.status × HasPut text e s)
     ⊎ ((stop : FilesStop) × Stops stop × HasStopped (λ text. (status : ℕ) × Answered text status) stop e s)
 
--- the parts of a text that is known are in the output, with status 0; or the output failed
+-- the parts of a fixed text are in the output, with status 0; or the output failed
 abbrev pub ServesText : (parts : List (List ℕ)) → Ended → Streams → Type 0
 ServesText parts e s = IsServed (λ text status. (text ≡ joined parts) × (status ≡ 0)) (λ stop. stop ≡ Other Output) e s
 
@@ -87,29 +87,29 @@ Serves (modes.Bundle options) input e s = IfSome input (λ bytes. IsServed (Answ
 Serves (modes.Replay limit) input e s = IfSome input (λ bytes. IsServed (λ text status. ReportsJournal limit bytes text × (status ≡ 0)) (OverStreams (StopsReplay limit bytes)) e s)
 
 -- Feeds were followed over a state directory: they have ended, and the status is 0 or 1; or the last line on the error
--- stream, or a beginning of it, says why the run did not begin or has ended, and the status is the one of that stop
+-- stream, or a prefix of it, says why the run did not begin or has ended, and the status is that of this stop
 abbrev pub ServesKept : Ended → (errors_now : Option (List ℕ)) → Type 0
 ServesKept e errors_now =
     ((e.status ≤ 1) × (e.printed ≡ true))
     ⊎ ((stop : FilesStop) × (before : Option (List ℕ)) × (e.status ≡ files_stop_status stop)
     × (e.printed ≡ true → Appends before errors_now (files_stop_line stop)) × (e.printed ≡ false → AppendsPart before errors_now (files_stop_line stop)))
 
--- The told lines of a state directory were printed: the status is 0, and the error stream was not written to; or it has the
--- one line, or a beginning of it, that says why they were not, and the status is the one of that stop. What the files of the
--- directory have is not known
+-- The told lines of a state directory were printed: the status is 0, and nothing was written to the error stream; or
+-- the error stream has one line, or a prefix of it, that says why they were not, and the status is that of this stop.
+-- The bytes of the files of the directory are not known
 abbrev pub ServesTold : Ended → (errors errors_now : Option (List ℕ)) → Type 0
 ServesTold e errors errors_now =
     ((e.status ≡ 0) × (e.printed ≡ true) × Keeps errors errors_now)
     ⊎ ((stop : FilesStop) × (e.status ≡ files_stop_status stop)
     × (e.printed ≡ true → Appends errors errors_now (files_stop_line stop)) × (e.printed ≡ false → AppendsPart errors errors_now (files_stop_line stop)))
 
--- A state directory is replayed: the text is the report of a history and the lines that all its entries print. What
--- the files of the directory have is not known
+-- A state directory is replayed: the text is the report of a history and the lines that all its entries print. The
+-- bytes of the files of the directory are not known
 abbrev pub IsReplayText : (text : List ℕ) → (status : ℕ) → Type 0
 IsReplayText text status = (status ≡ 0) × ((clock : Option ℕ) × ((h : History) × (text ≡ report (inventory_of h) (world_of h) ++ told_of clock h)))
 
--- the text is in the output; or the program stopped, the error stream has the line of the stop, or a beginning of it,
--- and the output is unchanged or has a beginning of the text
+-- the text is in the output; or the program stopped, the error stream has the line of the stop, or a prefix of it, and
+-- the output is unchanged or has a prefix of the text
 abbrev pub ServesStateReplay : Ended → Streams → Type 0
 ServesStateReplay e s =
     ((text : List ℕ) × IsReplayText text e.status × HasPut text e s)
@@ -120,7 +120,7 @@ ServesStateReplay e s =
 abbrev pub ServesInput : Option ModeName → (input : Option (List ℕ)) → Ended → Streams → Type 0
 ServesInput named input e s = HasNoCall named e s ⊎ (((mode : Mode) × HasRanges mode × Serves mode input e s) ⊎ ServesStateReplay e s)
 
--- the stops that have nothing to do with the inventory: memory ran out, or the output failed
+-- the stops that do not concern the inventory: memory ran out, or the output failed
 abbrev pub IsOfSystem : FilesStop → Type 0
 IsOfSystem (Other Memory) = Unit {0}
 IsOfSystem (Other Output) = Unit {0}
@@ -135,8 +135,8 @@ module _ {F : Type 0} where
   abbrev pub IsCounted : (remaining : F → Option (List ℕ)) → (text : List ℕ) → (status : ℕ) → Type 0
   IsCounted remaining text status = (inv : Configuration) × (counts : InventoryCounts) × IsInFile remaining inv × AreCountsOf inv counts × (text ≡ counts_line counts) × (status ≡ 0)
 
-  -- an inventory is checked: its counts are in the output; or there is none in the file, and the error stream has why: the
-  -- line of that stop, and behind it the meaning of the line
+  -- an inventory is checked: its counts are in the output; or there is no inventory in the file, and the error stream
+  -- has the line of the stop that says why, followed by the meaning of the line
   abbrev pub ServesCheck : (remaining : F → Option (List ℕ)) → (path : List ℕ) → Ended → Streams → Type 0
   ServesCheck remaining path e s =
       IsServed (IsCounted remaining) IsOfSystem e s
@@ -152,9 +152,9 @@ module _ {F : Type 0} where
       × (StopsInventory remaining call.inventory.now s
       ⊎ ((inv : Configuration) × IsInFile remaining inv × StopsOpening (map (λ p. p.now) call.feeds.items) s))
 
-  -- Feeds were followed under the inventory in a file, all of which was read. The error stream has the line on the
-  -- start, or a beginning of it. Then either the output has all that is due, and the error stream nothing more; or one
-  -- line more on the error stream says why the output has not
+  -- Feeds were followed under the inventory in a file, which was read to its end. The error stream has the line on the
+  -- start, or a prefix of it. Then either the output has the whole text that is due, and the error stream nothing more;
+  -- or one more line on the error stream says why the output does not have the whole text
   pub record HasServedFollow (remaining : F → Option (List ℕ)) (call : FollowCall) (e : Ended) (s : Streams) : Type 0 where
     pub inv : Configuration
     pub inventory_is : IsInFile remaining inv
@@ -173,7 +173,7 @@ module _ {F : Type 0} where
   ServesCall None remaining call e s = ServesFollow remaining call e s
   ServesCall (Some path) remaining call e s = ServesKept e s.errors_now
 
-  -- the effect of words, by the mode that the first word names: without one they ask for a bundle
+  -- the effect of words, by the mode that the first word names; words that name no mode ask for a bundle
   abbrev pub ServesWords : (remaining : F → Option (List ℕ)) → Option ModeName → (input : Option (List ℕ)) → Ended → Streams → Type 0
   ServesWords remaining (Some name.Files) input e s = HasNoCall (Some name.Files) e s ⊎ ((call : FilesCall) × AreOfWords call.options.run × ServesFiles remaining call e s)
   ServesWords remaining (Some name.Follow) input e s = HasNoCall (Some name.Follow) e s ⊎ ((call : FollowCall) × AreOfWords call.run × ServesCall call.keeping.state remaining call e s)
@@ -183,12 +183,12 @@ module _ {F : Type 0} where
   ServesWords remaining (Some name.Version) input e s = ServesText (VERSION_TEXT.now ∷ []) e s
   ServesWords remaining mode input e s = ServesInput mode input e s
 
--- the mode that explains lines: the line of these words, or without words the lines of an input whose bytes are known
+-- the mode `explain`: it explains the line of these words, or without words the lines of an input whose bytes are known
 abbrev pub ServesExplain : (words : List (List ℕ)) → (input : Option (List ℕ)) → Ended → Streams → Type 0
 ServesExplain words input e s = IfSome (asked_text words input) (λ asked. IsServed (Explains words asked) (OverOutput (StopsExplain words)) e s)
 
 module _ {F : Type 0} where
-  -- the effect of all words, by whether they ask to explain lines
+  -- the effect of all words, whether or not they ask to explain lines
   abbrev pub ServesProgram : (remaining : F → Option (List ℕ)) → (words : List (List ℕ)) → (input : Option (List ℕ)) → Ended → Streams → Type 0
   ServesProgram remaining words input e s =
       MatchOption (explain_words words) (ServesWords remaining (mode_named words) input e s) (λ line. ServesExplain line input e s)

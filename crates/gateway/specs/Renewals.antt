@@ -1,4 +1,4 @@
--- What follows each run of a call that keeps what it takes.
+-- What follows each run of a call that keeps the commands that it takes.
 use Rattle.std.specs.Prelude.{◌≤◌, ℕ, List, Option}
 use Rattle.cmd_answer.specs.declared.ended.Ended.{Ended}
 use Rattle.gateway.specs.declared.keeping.RunEnd.{RunEnd}

@@ -10,13 +10,13 @@ use Rattle.cmd_dispatch.specs.declared.report.RunReport.{RunReport}
 use Rattle.cmd_dispatch.specs.Watching.{IsBehind}
 use Rattle.gateway.specs.declared.watching.Watched.{Watched}
 
--- the list that a run has published: its journal; after a fault its journal too, or, where memory ran out, shorter by one
--- entry at most
+-- the list that a run has published: its journal, also after a fault; where memory ran out, the last entry of the
+-- journal may be missing
 abbrev pub IsPublished : Result RunReport RunFault → List Entry → Type 0
 IsPublished run published = MatchResult run (λ r. published ≡ r.journal.entries) (λ f. IsBehind f.cause f.journal.entries published)
 
--- Where figures are asked for, there is a board of this inventory on which the run was published, and the figures are
--- those of the published list; else there is no board
+-- Where figures are asked for, there is a board of this inventory on which the run was published, with the figures of
+-- the published list; else there is no board
 abbrev pub IsWatched : (asked : Bool) → Configuration → Result RunReport RunFault → Option Watched → Type 0
 IsWatched true inv run (Some w) = (w.board.inventory ≡ inv) × IsPublished run w.board.published × (w.figures ≡ figures (meaning inv w.board.published))
 IsWatched true inv run None = ⊥

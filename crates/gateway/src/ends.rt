@@ -1,5 +1,5 @@
-//! The end of a run that follows feeds: the lines `feed` and the exit status, or the stop of a run that failed. The
-//! functions make texts and return values; none of them writes to a stream.
+//! The end of a run that follows feeds: the lines `feed` and the exit status, or the stop of a run that failed. No
+//! function here writes to a stream.
 ghost use Rattle.std.specs.Prelude.{◌≡◌, ◌≤◌, ◌&&◌, ◌++◌, IfOk, OnOk, map};
 ghost use Rattle.std.specs.List.{list_all};
 ghost use Rattle.cmd_answer.specs.Printed.{is_whole};

@@ -1,4 +1,4 @@
-//! The modes `help` and `version`: they print a text that is known, and read nothing.
+//! The modes `help` and `version`: they print a fixed text, and read nothing.
 ghost use Rattle.std.specs.Prelude.{map};
 ghost use Rattle.gateway.specs.Modes.{ServesText, streams};
 

@@ -1,5 +1,5 @@
-//! The mode that follows feeds and keeps what it takes. Each command is in the journal of the state directory before
-//! its lines are printed, and after any end the next run resumes from the directory.
+//! The mode that follows feeds and keeps the commands that it takes. Each command is in the journal of the state
+//! directory before its lines are printed; however a run ends, the next run resumes from the directory.
 ghost use Rattle.std.specs.Prelude.{◌≡◌, ◌≤◌, false, IfOk, length};
 ghost use Rattle.cmd_types.specs.declared.entry.TheConstants.{MOST_SENDERS};
 ghost use Rattle.gateway.specs.Modes.{ServesKept};
@@ -32,7 +32,7 @@ use std::sync::atomic::{AtomicBool, Ordering};
 use std::thread::Threads;
 use std::time::Clock;
 
-/// How a run ended that did not fail.
+/// The end of a run that did not fail.
 #[derive(Clone, Copy)]
 pub(crate) enum RunEnd {
     /// All feeds have ended; the program ends with this status.
@@ -61,7 +61,7 @@ where
     Ok(RunEnd::Over(status))
 }
 
-/// Whether a run that ended by this cause did so for the next run, to which a feed has left a command that waited.
+/// Whether a run with this cause ended for the next run, because a feed has left a waiting command to that run.
 fn has_left_command<R: Files>(run: &Run<'_, R>, cause: RunCause) -> bool {
     let signal = &run.signal;
     matches!(cause, RunCause::SenderStopped(_))
@@ -117,8 +117,8 @@ where
     }
 }
 
-/// Writes to the error stream what is new as a run begins from `ledger`. Fails if memory runs out. A failed write is no
-/// error.
+/// Writes the news of a run that begins from `ledger` to the error stream. Fails if memory runs out. A failed write is
+/// no error.
 fn print_news<R, E: Write>(
     call: &Call<'_, R>,
     news: News,
@@ -148,9 +148,9 @@ fn print_news<R, E: Write>(
     }
 }
 
-/// Writes the beginning of a run to the directory, and follows its open feeds. Where the inventory is a new one, keeps
-/// the one before first. The error stream gets what is new. Returns the end and the output. Where the directory cannot be
-/// written, no feed is read.
+/// Writes the beginning of a run to the directory, and follows its open feeds. Where the inventory is new, first keeps
+/// the previous one. The error stream gets the news of the run. Returns the end and the output. Where the directory
+/// cannot be written, no feed is read.
 fn follow_kept<'a, R: System + Sync, I: Read + Send + Drop, O: Write + Drop, E: Write>(
     run: &'a Run<'a, R>,
     site: Site<'a>,
@@ -199,7 +199,7 @@ pub(crate) enum Onward<F: Drop> {
 /// What a run leaves to the next run in the same process.
 #[derive(Drop)]
 pub(crate) struct RunLeft<F: Drop> {
-    /// What it leaves of each feed, and what it has seen of the clocks and the inventory.
+    /// What the run leaves of each feed, and what it has seen of the clocks and the inventory.
     carried: CarriedRun<F>,
     /// The text of a new inventory; `None` where the next run has the same.
     inventory: Option<Vec<u8>>,
@@ -249,7 +249,7 @@ where
     }
 }
 
-/// Prints which files were replaced, and takes what the run leaves to the next one.
+/// Prints which files were replaced, and takes from the run what it leaves to the next one.
 fn leave_run<R: Files + Clock + Wait, E: Write>(run: &Run<'_, R>, errors: &mut E) -> Onward<R::File>
     ensures { GoesOn result (E.contents errors.new) }
 {
@@ -273,11 +273,11 @@ struct RunBeginning<'t, F: Drop> {
     inventory_text: &'t [u8],
     /// What the error stream gets when the run begins.
     news: News,
-    /// What the run before left; `None` where this run is the first one of the process.
+    /// What the previous run left; `None` where this run is the first one of the process.
     carried: Option<CarriedRun<F>>,
 }
 
-/// Serves one run of the call: reads the directory, opens the feeds with what the run before left, and follows them.
+/// Serves one run of the call: reads the directory, opens the feeds with what the previous run left, and follows them.
 /// Returns what comes next, and the output.
 fn serve_once<'t, R: System + Sync, I: Read + Send, O: Write + Drop, E: Write>(
     call: &'t Call<'t, R>,
@@ -316,9 +316,9 @@ where
 
 /// Follows feeds and keeps each command in the state directory at `path`, from which the run resumes (profile). First
 /// appends the lines that an earlier run did not print, then the lines of this run as they come. Writes the start, each
-/// refused line and the cause of a failure to the error stream. Where a file is replaced, or that of the inventory has a
-/// new text without a fault, a new run begins. Holds the directory's lock until it returns. Returns the end of the call,
-/// and the output, which the run owns until then.
+/// refused line and the cause of a failure to the error stream. Where the file of a feed is replaced, or the inventory
+/// file has a new text without a fault, a new run begins. Holds the directory's lock until it returns. Returns the end
+/// of the call, and the output, which the run owns until then.
 pub fn serve_kept<R: System + Sync, I: Read + Send, O: Write + Drop, E: Write>(
     call: &Call<'_, R>,
     path: &str,

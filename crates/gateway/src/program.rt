@@ -1,8 +1,8 @@
-//! The whole program over an input, an output and an error stream that the caller passes in. `serve_words` finds the
-//! mode that the words name, does it, appends the text to the output, and returns the status; a stop is one line on the
-//! error stream, and behind a wrong use the usage. The modes are a bundle, a replay of a journal or of a state directory,
-//! feeds in files, feeds that are followed, told lines of a state directory, an inventory that is checked, lines that are
-//! explained, help and version.
+//! The whole program over an input, an output and an error stream that the caller passes in. `serve_words` runs the
+//! mode that the words name, appends its text to the output, and returns the status. A stop is one line on the error
+//! stream, followed by the usage after a wrong use. The modes: run a bundle, replay a journal or a state directory, run
+//! feeds in files, follow feeds, print the told lines of a state directory, check an inventory, explain lines, help and
+//! version.
 ghost use Rattle.std.specs.Prelude.{◌≡◌, ℕ, List, Option, IfOk, IfErr, IfSome, map};
 ghost use Rattle.std.specs.Io.KnownBytes.{Appends, Keeps};
 ghost use Rattle.cmd_answer.specs.declared.stop.FilesStop.TheVariants.{Other};
@@ -37,8 +37,8 @@ use std::rt::Files;
 use std::sync::Wait;
 use std::thread::Threads;
 
-/// Ends a call whose words name no call of this mode: appends the line of a wrong use and the usage of the mode, or of
-/// all modes, to the error stream; or the line of the stop for out of memory.
+/// Ends a call whose words are not valid for this mode: appends the line of a wrong use and the usage of the mode, or
+/// of all modes, to the error stream; or the line of the stop for out of memory.
 fn without_call<E: Write>(fault: WordsFault, mode: Option<ModeName>, errors: &mut E) -> Ended
     ensures { (output : Option (List ℕ)) → HasNoCall mode result (streams output output (E.contents errors.old) (E.contents errors.new)) }
 {
@@ -49,7 +49,7 @@ fn without_call<E: Write>(fault: WordsFault, mode: Option<ModeName>, errors: &mu
 }
 
 /// Reads a bundle to its end, runs its feeds, and appends the text to the output. Returns the status. After an error
-/// the output is unchanged; where the output failed, a beginning of the text is in it.
+/// the output is unchanged, but a failed output may have a prefix of the text.
 fn serve_bundle<R: Threads + Wait + Sync, I: Read, O: Write>(
     rt: &R,
     alloc: Global,
@@ -69,7 +69,7 @@ fn serve_bundle<R: Threads + Wait + Sync, I: Read, O: Write>(
 }
 
 /// Runs `mode` and appends its text to `output`, or one line on the stop to `errors`. Only a failed `output` may get a
-/// beginning of the text. The status is as for `serve_words`; `printed` says whether `errors` took its line.
+/// prefix of the text. The status is as for `serve_words`; `printed` says whether `errors` took its line.
 fn serve_streams<R: AllocGlobal + Threads + Wait + Sync, I: Read, O: Write, E: Write>(
     rt: &R,
     mode: Mode,
@@ -100,7 +100,7 @@ fn serve_streams<R: AllocGlobal + Threads + Wait + Sync, I: Read, O: Write, E: W
 }
 
 /// Runs feeds in files, and appends the text for the run to `output`, or one line on the stop to `errors`. Only a
-/// failed `output` may get a beginning of the text.
+/// failed `output` may get a prefix of the text.
 fn serve_files<R: System + Sync, O: Write, E: Write>(
     rt: &R,
     alloc: Global,
@@ -173,8 +173,8 @@ fn serve_input<R: AllocGlobal + System + Sync, I: Read, O: Write, E: Write>(
     }
 }
 
-/// Does the mode that the words name, other than to explain lines, over the streams of the caller. Returns the end of
-/// the call, and the output with the text appended; a stop is one line on `errors`.
+/// Runs the mode that the words name, other than `explain`, over the streams of the caller. Returns the end of the
+/// call, and the output with the text appended; a stop is one line on `errors`.
 fn serve_modes<R: AllocGlobal + System + Sync, I: Read + Send, O: Write + Drop, E: Write>(
     rt: &R,
     words: &[&str],
@@ -209,7 +209,7 @@ where
         },
         Some(ModeName::Help) => (serve_text(usage_of(None), &mut output, errors), output),
         Some(ModeName::Version) => (serve_text(&[VERSION_TEXT], &mut output, errors), output),
-        // Four arms with the same value: joined, they would lose what the proof knows of the mode.
+        // Four arms with the same value: one joined arm would lose the facts that the proof needs about the mode.
         Some(ModeName::Bundle) => (serve_input(rt, words, input, &mut output, errors), output),
         Some(ModeName::Replay) => (serve_input(rt, words, input, &mut output, errors), output),
         Some(ModeName::Explain) => (serve_input(rt, words, input, &mut output, errors), output),
@@ -217,23 +217,23 @@ where
     }
 }
 
-/// Does what `words`, the words of the program after its name, ask for, over the streams of the caller. Returns the end
-/// of the call, and the output with the text appended (profile).
+/// Runs the call that `words`, the words of the program after its name, ask for, over the streams of the caller.
+/// Returns the end of the call, and the output with the text appended (profile).
 ///
 /// The text of the mode is appended to the output and nothing else; or one line on the stop is appended to the error
-/// stream, or a beginning of that line where `printed` in [`Ended`] is false. After a stop the output is unchanged; but
-/// where the output failed, or feeds were followed, a beginning of the text may be there. For a replay the text is the
+/// stream, or a prefix of that line where `printed` in [`Ended`] is false. After a stop the output is unchanged, except
+/// that a prefix of the text may be there where the output failed or feeds were followed. For a replay the text is the
 /// report on the state that the journal leads to. For a bundle and for feeds in files it is the report, the lines on
-/// the feeds and, where they are asked for, the figures and the journal. The journal has of each feed exactly the
-/// commands of the bytes that were read of the feed; the report and the figures are those of the journal. After a fault
-/// of the run, the line of its cause comes instead of the report. For feeds that are followed the text is the lines
-/// that are printed as the commands come; then the error stream also has a line on the start and the refused lines. For
-/// lines that are explained the text is each line, and after each line that is known its meaning. The contract does not
-/// know the bytes of a file.
+/// the feeds and, where they are asked for, the figures and the journal. For each feed, the journal has exactly the
+/// commands of the bytes that were read from the feed; the report and the figures are those of the journal. After a
+/// fault of the run, the line of its cause comes instead of the report. For feeds that are followed the text is the
+/// lines that are printed as the commands come; then the error stream also has a line on the start and the refused
+/// lines. For lines that are explained the text is each line, and after each known line its meaning. The contract does
+/// not know the bytes of a file.
 ///
 /// The status is 0 where all feeds are whole and no line is refused, 1 where a feed is not whole or a line is refused,
-/// 2 where the words, a file or the input are at fault, and 3 where the run failed, memory runs out or the output
-/// failed. A replay has 0. Words that are explained have 1 where a line of them is not known, and an input that is
+/// 2 where the words, a file or the input are faulty, and 3 where the run failed, memory ran out or the output failed.
+/// A replay has 0. Words that are explained have 1 where one of their lines is not known, and an input that is
 /// explained has 0.
 pub fn serve_words<R: AllocGlobal + System + Sync, I: Read + Send, O: Write + Drop, E: Write>(
     rt: &R,

@@ -1,4 +1,4 @@
-//! The mode `told`: it prints the told lines of a state directory behind a place, each behind its key.
+//! The mode `told`: it prints the told lines of a state directory after a place, each after its key.
 ghost use Rattle.gateway.specs.Modes.{ServesTold};
 
 use cmd_answer::{Ended, FilesStop, stopped};
@@ -7,9 +7,9 @@ use cmd_options::ToldCall;
 use std::alloc::Global;
 use std::io::Write;
 
-/// Prints the told lines of a state directory behind a place, each behind its key `N.L;`, over all segments that are
-/// there, in order; with `follow` continues as lines are printed, into the next segment too. Appends the line of a stop
-/// to the error stream. Returns the end of the call.
+/// Prints the told lines of a state directory after a place, each after its key `N.L;`, over all existing segments in
+/// order; with `follow` continues as lines are printed, into the next segment too. Appends the line of a stop to the
+/// error stream. Returns the end of the call.
 pub fn serve_told<R: System, O: Write, E: Write>(
     rt: &R,
     alloc: Global,

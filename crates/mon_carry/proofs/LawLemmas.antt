@@ -1,4 +1,4 @@
--- What stands, what begins and what is over under a new inventory.
+-- What remains, what begins and what is over under a new inventory.
 use Rattle.std.proofs.Common.{◌≡◌, ◌≢◌, ℕ, zero, suc, ◌<◌, ◌≤◌, Bool, true, false, cond, ◌&&◌, ◌==◌, List, [], ◌∷◌, length, map, filter, filter_map, leb, if◌then◌else◌, Option, Some, None, is_some, slice_get, Contains, option_map, inl, inr, refl, ap, sym, ◌∙◌, arith}
 use Rattle.std.specs.List.{cons_option}
 use Rattle.std.proofs.lemmas.Bool.{eq-eqb, ne_eqb, eqb-true, lt-leb, le-leb, cases_lt}
@@ -35,7 +35,7 @@ use Rattle.mon_carry.proofs.PlaceLemmas.{moved_is, place_back, moved_same, gone_
 mapped_at : {X Y : Type 0} (f : X → Y) (xs : List X) (k : ℕ) (x : X) → slice_get xs k ≡ Some x → slice_get (map f xs) k ≡ Some (f x)
 mapped_at f xs k x e = slice_get-map f xs k ∙ ap (option_map f) e
 
--- what is carried to an object, where the one of its names is found
+-- the state that is carried to an object whose names are found in the old inventory
 object_from : (clock : ℕ) (old : List ObjectSpec) (os : List Object) (spec : ObjectSpec) (j : ℕ) (o : Object) → place_in old spec ≡ Some j → slice_get os j ≡ Some o → object_carried clock old os spec ≡ object_within clock spec.max o
 unfolding object_carried
 object_from clock old os spec j o place e = ap (λ p. known_or_first clock spec (item_at os p)) place ∙ ap (known_or_first clock spec) e
@@ -61,7 +61,7 @@ statuses_stand old new w j k o sound same e below =
 abbrev pub is_at : ℕ → Comment → Bool
 is_at k c = c.object == k
 
--- one comment more
+-- one more comment
 comment_stands : (old new : Configuration) (j k : ℕ) (c : Comment) (cs : List Comment) → IsInventory old → IsInventory new → IsSameObject old.objects new.objects j k
     → filter (is_at k) (filter_map (comment_carried old.objects new.objects) cs) ≡ map (comment_at k) (filter (is_at j) cs)
     → filter (is_at k) (filter_map (comment_carried old.objects new.objects) (c ∷ cs)) ≡ map (comment_at k) (filter (is_at j) (c ∷ cs))
@@ -214,7 +214,7 @@ within_some [] k within e = omega arith
 within_some (x ∷ xs) zero within e = cc
 within_some (x ∷ xs) (suc k) within e = within_some xs k (omega arith) e
 
--- an object that is there stands where it is
+-- under the same inventory an object keeps its index
 stays : (inv : Configuration) (k : ℕ) → IsInventory inv → k < length inv.objects → moved inv.objects inv.objects k ≡ Some k
 stays inv k sound within = by (slice_get inv.objects k) refl
   where
@@ -310,7 +310,7 @@ what_waits_for_them_does_not_start old new w d trigger sound some e gone =
         ∙ ap (option_map (downtime_carried old.objects new.objects)) e
         ∙ ap Some (downtime_from old.objects new.objects trigger None (gone_moved old.objects new trigger.object sound gone))
 
--- ---- ids go on
+-- ---- all else is unchanged
 
 pub all_else_goes_on : AllElseGoesOn
 unfolding carried

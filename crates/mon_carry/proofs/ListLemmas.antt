@@ -1,4 +1,4 @@
--- Lists that are read place by place, mapped, or kept in part.
+-- Lists that are compared item by item, mapped, or filtered.
 use Rattle.std.proofs.Common.{◌≡◌, ◌≢◌, ℕ, zero, suc, ◌+◌, ◌<◌, Bool, true, false, cond, List, [], ◌∷◌, ◌++◌, set, length, take, map, get_or, Option, Some, None, slice_get, All, count_by, find, filter_map, option_map, refl, ap, sym, ◌∙◌, arith}
 use Rattle.std.specs.List.{cons_option}
 use Rattle.std.proofs.lemmas.List.{map_more}
@@ -12,7 +12,7 @@ mapped_more {Y = Y} f xs i x ys zs y lt here before is more =
 
 -- ---- place by place
 
--- lists of one length with the same item at each place are one
+-- lists of the same length with the same item at each index are equal
 pub same_places : {X : Type 0} (xs ys : List X) → length xs ≡ length ys → ((k : ℕ) (x y : X) → slice_get xs k ≡ Some x → slice_get ys k ≡ Some y → x ≡ y) → xs ≡ ys
 same_places [] [] long h = refl
 same_places [] (y ∷ ys) long h = absurd (omega arith)
@@ -67,9 +67,9 @@ find_map {X = X} f p q same (x ∷ xs) = rw (same x, find_map f p q same xs) (by
     by true = refl
     by false = refl
 
--- ---- lists that are kept in part
+-- ---- lists that are filtered
 
--- what holds of each that is kept
+-- a property of each item that is kept
 pub All-filter_map : {X Y : Type 0} (P : Y → Type 0) (Q : X → Type 0) (h : X → Option Y) → ((x : X) (y : Y) → Q x → h x ≡ Some y → P y) → (xs : List X) → All Q xs → All P (filter_map h xs)
 All-filter_map P Q h tells [] all = All-nil P
 All-filter_map {Y = Y} P Q h tells (x ∷ xs) all = by (All-filter_map P Q h tells xs (All-tail Q x xs all)) (h x) refl
@@ -78,7 +78,7 @@ All-filter_map {Y = Y} P Q h tells (x ∷ xs) all = by (All-filter_map P Q h tel
     by later None e = later
     by later (Some y) e = All-cons P y (filter_map h xs) (tells x y (All-head Q x xs all) e) later
 
--- all are kept, as they are
+-- all items are kept unchanged
 pub filter_map_all : {X : Type 0} (Q : X → Type 0) (h : X → Option X) → ((x : X) → Q x → h x ≡ Some x) → (xs : List X) → All Q xs → filter_map h xs ≡ xs
 filter_map_all Q h tells [] all = refl
 filter_map_all Q h tells (x ∷ xs) all = rw (tells x (All-head Q x xs all), filter_map_all Q h tells xs (All-tail Q x xs all)) refl

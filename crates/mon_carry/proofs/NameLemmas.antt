@@ -1,4 +1,4 @@
--- What a look-up by names finds has these names, and what has them is found.
+-- A look-up by names finds an object with these names, and finds each such object.
 use Rattle.std.proofs.Common.{◌≡◌, ◌≢◌, ℕ, zero, suc, ◌+◌, Bool, true, false, cond, ◌&&◌, ◌==◌, if◌then◌else◌, List, [], ◌∷◌, Option, Some, None, is_some, slice_get, All, refl, ap, sym, ◌∙◌, arith}
 use Rattle.std.specs.List.{position_from}
 use Rattle.std.specs.Str.{bytes_eq}
@@ -124,13 +124,13 @@ host_is k name n h s = by (position_from (is_host name) 0 k.objects) refl
 
 -- ---- services
 
--- one index has one name
+-- hosts at the same index have the same name
 same_name : (os : List ObjectSpec) (a b : List ℕ) (n m : ℕ) → StandsAt (IsHostNamed a) os n → StandsAt (IsHostNamed b) os m → n ≡ m → a ≡ b
 same_name os a b n m s t same =
     let one = same_Some s.element t.element (sym s.is ∙ ap (slice_get os) same ∙ t.is) in
     sym s.holds.1 ∙ ap (λ o. o.host) one ∙ t.holds.1
 
--- services of one host index are of hosts of one name
+-- services with the same host index belong to the host of one name
 at_host : (k : Configuration) (host name : List ℕ) (h n : ℕ) → IsInventory k → StandsAt (IsHostNamed host) k.objects h → StandsAt (IsServiceAt h name) k.objects n → StandsAt (IsServiceNamed host name) k.objects n
 at_host k host name h n sound here s =
     let its = (sound.objects n s.element s.is).host_stands in

@@ -1,4 +1,4 @@
--- Where objects stand in the new inventory.
+-- The indices of objects in the new inventory.
 use Rattle.std.proofs.Common.{◌≡◌, ℕ, ◌<◌, List, Option, Some, None, length, slice_get, refl, ap, sym, ◌∙◌}
 use Rattle.std.proofs.lemmas.Option.{same_Some, slice_get_within}
 use Rattle.mon_inventory.specs.declared.records.ObjectSpec.{ObjectSpec}
@@ -10,7 +10,7 @@ use Rattle.mon_carry.proofs.NameLemmas.{place_found, place_is}
 pub turned : (a b : ObjectSpec) → HaveSameNames a b → HaveSameNames b a
 turned a b h = record { host = sym h.host; service = sym h.service }
 
--- the same object is found in the new inventory, and in the old one
+-- an object in both inventories is found in the new one and in the old one
 pub moved_is : (old : List ObjectSpec) (new : Configuration) (j k : ℕ) → IsInventory new → IsSameObject old new.objects j k → moved old new.objects j ≡ Some k
 unfolding moved
 moved_is old new j k sound same = rw same.stood (place_is new same.was same.is_now k sound same.stands same.names)
@@ -18,7 +18,7 @@ moved_is old new j k sound same = rw same.stood (place_is new same.was same.is_n
 pub place_back : (old : Configuration) (new : List ObjectSpec) (j k : ℕ) → IsInventory old → (same : IsSameObject old.objects new j k) → place_in old.objects same.is_now ≡ Some j
 place_back old new j k sound same = place_is old same.is_now same.was j sound same.stood (turned same.was same.is_now same.names)
 
--- what is found is the same object
+-- the object that is found is the same
 pub moved_same : (old : List ObjectSpec) (new : Configuration) (j k : ℕ) → IsInventory new → moved old new.objects j ≡ Some k → IsSameObject old new.objects j k
 unfolding moved
 moved_same old new j k sound e = by (slice_get old j) refl e
@@ -30,7 +30,7 @@ moved_same old new j k sound e = by (slice_get old j) refl e
 pub place_same : (old : Configuration) (new : List ObjectSpec) (j k : ℕ) (spec : ObjectSpec) → IsInventory old → slice_get new k ≡ Some spec → place_in old.objects spec ≡ Some j → IsSameObject old.objects new j k
 place_same old new j k spec sound is e = let f = place_found old spec j sound e in record { was = f.item; is_now = spec; stood = f.is; stands = is; names = turned spec f.item f.names }
 
--- an object that is gone is not found, and one that is new was not there
+-- a gone object is not found in the new inventory, nor a new object in the old one
 pub gone_moved : (old : List ObjectSpec) (new : Configuration) (j : ℕ) → IsInventory new → IsGoneObject old new.objects j → moved old new.objects j ≡ None
 gone_moved old new j sound gone = by (moved old new.objects j) refl
   where
@@ -45,13 +45,13 @@ new_place old new k spec sound is = by (place_in old.objects spec) refl
     by None e = refl
     by (Some j) e = absurd (is.none j (place_same old new j k spec sound is.stands e))
 
--- two objects of the old inventory are not one of the new
+-- two objects of the old inventory are never the same object of the new one
 pub same_once : (old : Configuration) (new : List ObjectSpec) (i j k : ℕ) → IsInventory old → IsSameObject old.objects new i k → IsSameObject old.objects new j k → i ≡ j
 same_once old new i j k sound a b =
     let one = same_Some a.is_now b.is_now (sym a.stands ∙ b.stands) in
     same_Some i j (sym (place_back old new i k sound a) ∙ ap (place_in old.objects) one ∙ place_back old new j k sound b)
 
--- an object is itself
+-- an object is the same as itself
 abbrev pub itself : (objects : List ObjectSpec) (k : ℕ) (spec : ObjectSpec) → slice_get objects k ≡ Some spec → IsSameObject objects objects k k
 itself objects k spec e = record { was = spec; is_now = spec; stood = e; stands = e; names = record { host = refl; service = refl } }
 

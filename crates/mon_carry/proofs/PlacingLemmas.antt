@@ -28,7 +28,7 @@ if_before count (Some j) = if nat_lt j count then Some j else None
 unfoldable pub object_so_far : (clock : ℕ) → (old : List ObjectSpec) → List Object → (count : ℕ) → ObjectSpec → Object
 object_so_far clock old os count spec = known_or_first clock spec (item_at os (if_before count (place_in old spec)))
 
--- before the first is placed
+-- before the first object is placed
 pub none_placed : (clock : ℕ) (old : List ObjectSpec) (os : List Object) (new : List ObjectSpec) → map initial_object new ≡ map (object_so_far clock old os 0) new
 unfolding object_so_far
 none_placed clock old os new = map_agrees initial_object (object_so_far clock old os 0) new (λ k spec e. by spec (place_in old spec))
@@ -37,7 +37,7 @@ none_placed clock old os new = map_agrees initial_object (object_so_far clock ol
     by spec None = refl
     by spec (Some j) = rw (le-ltb j 0 (omega arith)) refl
 
--- once all are
+-- once all objects are placed
 pub all_placed : (clock : ℕ) (old : Configuration) (os : List Object) (count : ℕ) (new : List ObjectSpec) → IsInventory old → length os ≡ length old.objects → length os ≤ count → map (object_so_far clock old.objects os count) new ≡ map (object_carried clock old.objects os) new
 unfolding object_so_far object_carried
 all_placed clock old os count new sound many all = map_agrees (object_so_far clock old.objects os count) (object_carried clock old.objects os) new (λ k spec e. by spec (place_in old.objects spec) refl)
@@ -49,7 +49,7 @@ all_placed clock old os count new sound many all = map_agrees (object_so_far clo
         let within = slice_get_within old.objects j there.item there.is in
         rw (lt-ltb j count (omega arith)) refl
 
--- one more is placed, or is none of the new inventory: no other object changes
+-- where one more object is placed, or is not in the new inventory, no other object changes
 so_far_other : (clock : ℕ) (old : List ObjectSpec) (os : List Object) (index : ℕ) (spec : ObjectSpec) → place_in old spec ≢ Some index → object_so_far clock old os (index + 1) spec ≡ object_so_far clock old os index spec
 unfolding object_so_far
 so_far_other clock old os index spec apart = by (place_in old spec) refl
@@ -95,7 +95,7 @@ one_placed clock old new os index place was spec o sound-old sound-new stood fou
         let back = place_is old spec was index sound-old stood (rw (← item) (record { host = sym there.names.host; service = sym there.names.service })) in
         rw (← one) (so_far_here clock old.objects os index spec o back e)
 
--- one more is placed
+-- one more object is placed
 pub placed_more : (clock : ℕ) (old new : Configuration) (os : List Object) (index : ℕ) (was : ObjectSpec) (known : Object) → IsInventory old → IsInventory new → slice_get old.objects index ≡ Some was → slice_get os index ≡ Some known
     → with_known clock new.objects known (map (object_so_far clock old.objects os index) new.objects) (place_in new.objects was) ≡ map (object_so_far clock old.objects os (index + 1)) new.objects
 placed_more clock old new os index was known sound-old sound-new stood e = by (place_in new.objects was) refl
@@ -111,7 +111,7 @@ seam : {X : Type 0} (front : List X) (x : X) (rest : List X) → slice_get (fron
 seam [] x rest = refl
 seam (y ∷ front) x rest = seam front x rest
 
--- what comes behind those that are placed
+-- the next object after those that are placed
 pub next_known : {X : Type 0} (front : List X) (x : X) (rest all : List X) (i : ℕ) → front ++ x ∷ rest ≡ all → i ≡ length front → slice_get all i ≡ Some x
 next_known front x rest all i whole at = rw (← whole, at) (seam front x rest)
 

@@ -18,7 +18,7 @@ use Rattle.mon_inventory.specs.Configuration.{Configuration}
 use Rattle.mon_inventory.specs.Facts.{IsInventory}
 use Rattle.mon_engine.specs.declared.object.Object.{Object}
 use Rattle.mon_engine.specs.Objects.{is_service, is_of_hard_problem, initial_object}
-use Rattle.mon_engine.specs.Sound.{IsObjectState, AreObjectStates, IsNoticeOf, ever}
+use Rattle.mon_engine.specs.Sound.{IsObjectState, AreObjectStates, IsNoticeOf, raised}
 use Rattle.mon_engine.specs.Saved.{IsSaidObject, IsSaidComment, IsSaidDowntime}
 use Rattle.mon_carry.specs.Names.{place_in, moved}
 use Rattle.mon_carry.specs.Carried.{item_at, status_within, since_within, object_within, known_or_first, object_carried, contact_carried, comment_at, comment_on, comment_carried, downtime_on, downtime_carried, carried}
@@ -41,7 +41,7 @@ same_kind max s = elim (cases_lt s.attempt max) [
   | inr above ↦ rw (le-leb max s.attempt above) (refl, refl)
 ]
 
--- what holds of an object that entries led to
+-- the conditions on an object of a world that can be saved
 record IsGoodObject (n : ℕ) (spec : ObjectSpec) (o : Object) : Type 0 where
   state : IsObjectState spec o
   number : o.number ≤ GREATEST_NUMBER + n
@@ -58,7 +58,7 @@ first_good n spec least = record {
     code true = omega arith
     code false = omega arith
 
--- the beginning of a hard problem is known under a new greatest attempt, and in range
+-- under a new greatest attempt the beginning of a hard problem is known and in range
 since_good : (clock max : ℕ) (o : Object) → clock ≤ GREATEST_NUMBER → is_some o.moments.since ≡ is_of_hard_problem o.status → IfSome o.moments.since (λ moment. moment ≤ GREATEST_NUMBER)
     → (is_some (since_within clock max o) ≡ is_of_hard_problem (status_within max o.status)) × IfSome (since_within clock max o) (λ moment. moment ≤ GREATEST_NUMBER)
 since_good clock max o small known few = elim (cases_lt o.status.attempt max) [
@@ -150,7 +150,7 @@ kept_given old new last (c ∷ cs) h = by (kept_given old new last cs h.1) (move
     by rest None = rest
     by rest (Some m) = (h.0, rest)
 
--- what holds of a comment wherever it stands holds of it where it stands now
+-- a property of a comment at any new index of its object holds of the carried comment
 comment_holds : (P : Comment → Type 0) (old new : List ObjectSpec) (c x : Comment) → ((m : ℕ) → moved old new c.object ≡ Some m → P (comment_at m c)) → comment_carried old new c ≡ Some x → P x
 comment_holds P old new c x h e = by (moved old new c.object) refl e
   where
@@ -178,7 +178,7 @@ carried_said old new d h = by (moved old new d.object)
     by None = h
     by (Some m) = h
 
--- where the new inventory has an object, a downtime stands at one
+-- where the new inventory has an object, each carried downtime is at an object of it
 carried_known : (old : List ObjectSpec) (new : Configuration) (d : Downtime) → IsInventory new → 0 < length new.objects → (downtime_carried old new.objects d).object < length new.objects
 carried_known old new d sound some = by (moved old new.objects d.object) refl
   where
@@ -202,7 +202,7 @@ unfolding carried
 a_carried_world_is_saved old new w sound-old sound-new h places = record {
   world = record {
     clock = h.world.clock;
-    states = carried_states w.clock (ever w) old new w.objects h.world.clock sound-old sound-new h.world.states h.said.objects;
+    states = carried_states w.clock (raised w) old new w.objects h.world.clock sound-old sound-new h.world.states h.said.objects;
     contacts = length-map new.contacts (contact_carried old.contacts w.contacts);
     comments = h.world.comments;
     noted = All-filter_map (λ c. c.object < length new.objects) (λ c. Unit {0}) (comment_carried old.objects new.objects)
@@ -216,7 +216,7 @@ a_carried_world_is_saved old new w sound-old sound-new h places = record {
   notes = record { ascending = kept_ascend old.objects new.objects 0 w.notes.comments h.notes.ascending; given = kept_given old.objects new.objects w.notes.last_id w.notes.comments h.notes.given };
   records = carried_records old.objects new.objects 0 w.downtimes h.records;
   said = record {
-    objects = λ k d within. (carried_at w.clock (ever w) old new w.objects h.world.clock sound-old sound-new h.world.states h.said.objects k _ (slice_get-get_or (map (object_carried w.clock old.objects w.objects) new.objects) k d within)).2.said;
+    objects = λ k d within. (carried_at w.clock (raised w) old new w.objects h.world.clock sound-old sound-new h.world.states h.said.objects k _ (slice_get-get_or (map (object_carried w.clock old.objects w.objects) new.objects) k d within)).2.said;
     comments = All-filter_map IsSaidComment IsSaidComment (comment_carried old.objects new.objects)
         (λ c x said e. comment_holds IsSaidComment old.objects new.objects c x (λ m f. record { time = said.time; said = said.said }) e) w.notes.comments h.said.comments;
     downtimes = All-map IsSaidDowntime (downtime_carried old.objects new.objects) w.downtimes (All-weaker IsSaidDowntime (λ d. IsSaidDowntime (downtime_carried old.objects new.objects d)) (carried_said old.objects new.objects) w.downtimes h.said.downtimes);

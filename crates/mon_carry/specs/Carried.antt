@@ -1,5 +1,5 @@
--- A monitor's world under a new inventory: objects and contacts of the same names keep what is known of them,
--- whatever their indices.
+-- A monitor's world under a new inventory: objects and contacts with the same names keep their state, whatever their
+-- indices.
 use Rattle.std.specs.Prelude.{◌≢◌, ℕ, nat_le, true, if◌then◌else◌, List, [], Option, Some, None, map, slice_get}
 use Rattle.std.specs.List.{filter_map}
 use Rattle.mon_checks.specs.declared.status.Status.{Status}
@@ -23,12 +23,12 @@ item_at xs (Some k) = slice_get xs k
 
 -- ---- objects
 
--- a status with a new greatest attempt: from that attempt on the state is hard, and its attempt is the greatest
+-- a status under a new greatest attempt: at or above that attempt the state is hard, and the attempt is the greatest
 abbrev pub status_within : (max : ℕ) → Status → Status
 status_within max s = if nat_le max s.attempt then record s { hard = true; attempt = max } else s
 
--- the beginning of an object's hard problem, under a new greatest attempt: a problem that becomes hard by it begins at
--- the clock
+-- the beginning of an object's hard problem under a new greatest attempt: a problem that becomes hard in this way
+-- begins at the clock
 abbrev pub since_within : (clock max : ℕ) → Object → Option ℕ
 since_within clock max o = if nat_le max o.status.attempt then since_after clock o.status o.moments.since (status_within max o.status) else o.moments.since
 
@@ -36,8 +36,8 @@ since_within clock max o = if nat_le max o.status.attempt then since_after clock
 abbrev pub object_within : (clock max : ℕ) → Object → Object
 object_within clock max o = record o { status = status_within max o.status; moments = record o.moments { since = since_within clock max o } }
 
--- the state of an object now: the old state, within the new greatest attempt; a new object has had no result and no
--- command
+-- the state of an object under the new inventory: the old state, within the new greatest attempt; a new object has had
+-- no result and no command
 abbrev pub known_or_first : (clock : ℕ) → ObjectSpec → Option Object → Object
 known_or_first clock spec None = initial_object spec
 known_or_first clock spec (Some o) = object_within clock spec.max o
@@ -59,7 +59,7 @@ contact_carried old switches c = switch_or_first c (item_at switches (contact_of
 
 -- ---- comments and downtimes
 
--- the comment, of the object with this index
+-- the comment, with this index of its object
 abbrev pub comment_at : (object : ℕ) → Comment → Comment
 comment_at object c = record c { object = object }
 
@@ -68,7 +68,7 @@ abbrev pub comment_on : Comment → Option ℕ → Option Comment
 comment_on c None = None
 comment_on c (Some object) = Some (comment_at object c)
 
--- a comment has the new index of its object; it is removed with its object
+-- a comment gets the new index of its object; it is removed if its object is gone
 abbrev pub comment_carried : (old new : List ObjectSpec) → Comment → Option Comment
 comment_carried old new c = comment_on c (moved old new c.object)
 
@@ -77,8 +77,8 @@ abbrev pub downtime_on : Downtime → Option ℕ → Downtime
 downtime_on d None = record d { object = 0; fate = Over }
 downtime_on d (Some object) = record d { object = object }
 
--- a downtime has the new index of its object; where the object is gone it is over, at object 0, so that its id is not
--- assigned again
+-- a downtime gets the new index of its object; where the object is gone the downtime is over, at object 0, and stays in
+-- the list, so that its id is not assigned again
 abbrev pub downtime_carried : (old new : List ObjectSpec) → Downtime → Downtime
 downtime_carried old new d = downtime_on d (moved old new d.object)
 

@@ -19,29 +19,30 @@ use Rattle.mon_carry.specs.Carried.{object_within, comment_at, carried, HasPlace
 
 -- ---- what is the same remains
 
--- of an object that is the same the output, the acknowledgement, the notification number, the last notice, the delay,
--- the switches and the moments of its last result and last change are as they were, whatever its index; the status is
--- within the new greatest attempt, and a problem that becomes hard by it begins at the clock
+-- an object in both inventories keeps its output, acknowledgement, notification number, last notice, delay, switches,
+-- and the moments of its last result and last change, whatever its index; its status is within the new greatest
+-- attempt, and a problem that becomes hard in this way begins at the clock
 abbrev pub ObjectsStand : Type 0
 ObjectsStand = (old new : Configuration) (w : World) (j k : ℕ) (o : Object) → IsInventory old → (same : IsSameObject old.objects new.objects j k) → slice_get w.objects j ≡ Some o →
     slice_get (carried old w new).objects k ≡ Some (object_within w.clock same.is_now.max o)
 
--- where its attempt is below the new greatest one, all of it is as it was
+-- an object in both inventories is unchanged where its attempt is below the new greatest attempt
 abbrev pub StatusesStand : Type 0
 StatusesStand = (old new : Configuration) (w : World) (j k : ℕ) (o : Object) → IsInventory old → (same : IsSameObject old.objects new.objects j k) → slice_get w.objects j ≡ Some o →
     o.status.attempt < same.is_now.max → slice_get (carried old w new).objects k ≡ Some o
 
--- its comments remain, in order and under their ids, each as it was
+-- the comments of an object in both inventories remain, in order and with their ids, unchanged but for the index
 abbrev pub CommentsStand : Type 0
 CommentsStand = (old new : Configuration) (w : World) (j k : ℕ) → IsInventory old → IsInventory new → IsSameObject old.objects new.objects j k →
     filter (λ c. c.object == k) (carried old w new).notes.comments ≡ map (comment_at k) (filter (λ c. c.object == j) w.notes.comments)
 
--- its downtimes remain, each at its index of the list, under its id and as it was
+-- the downtimes of an object in both inventories remain, each at its index of the list and with its id, unchanged but
+-- for the index of the object
 abbrev pub DowntimesStand : Type 0
 DowntimesStand = (old new : Configuration) (w : World) (j k : ℕ) (place : ℕ) (d : Downtime) → IsInventory new → IsSameObject old.objects new.objects j k → slice_get w.downtimes place ≡ Some d → d.object ≡ j →
     slice_get (carried old w new).downtimes place ≡ Some (record d { object = k })
 
--- as many downtimes of it are active as were
+-- an object in both inventories has as many active downtimes as before
 abbrev pub DepthsStand : Type 0
 DepthsStand = (old new : Configuration) (w : World) (j k : ℕ) → IsInventory old → IsInventory new → IsSameObject old.objects new.objects j k →
     depth_of (carried old w new).downtimes k ≡ depth_of w.downtimes j
@@ -62,12 +63,12 @@ abbrev pub NewObjectsBegin : Type 0
 NewObjectsBegin = (old new : Configuration) (w : World) (k : ℕ) (spec : ObjectSpec) → IsInventory old → IsNewObject old.objects new.objects k spec →
     slice_get (carried old w new).objects k ≡ Some (initial_object spec)
 
--- it has no comment
+-- a new object has no comment
 abbrev pub NewObjectsHaveNoComments : Type 0
 NewObjectsHaveNoComments = (old new : Configuration) (w : World) (k : ℕ) (spec : ObjectSpec) → IsInventory new → IsNewObject old.objects new.objects k spec →
     All (λ c. c.object ≢ k) (carried old w new).notes.comments
 
--- and no downtime that is not over
+-- each downtime of a new object is over
 abbrev pub NewObjectsHaveNoDowntimes : Type 0
 NewObjectsHaveNoDowntimes = (old new : Configuration) (w : World) (k : ℕ) (spec : ObjectSpec) → IsInventory new → IsNewObject old.objects new.objects k spec →
     All (λ d. d.object ≡ k → d.fate ≡ Over) (carried old w new).downtimes
@@ -79,31 +80,31 @@ NewContactsBegin = (old new : Configuration) (w : World) (k : ℕ) (spec : Conta
 
 -- ---- what is gone is over
 
--- a comment that was there before, of an object that is the same
+-- the comment was there before, on an object in both inventories
 pub record IsOfSameObject (old new : Configuration) (w : World) (c : Comment) : Type 0 where
   pub was : Comment
   pub there : Contains w.notes.comments was
   pub same : IsSameObject old.objects new.objects was.object c.object
   pub as_it_was : c ≡ comment_at c.object was
 
--- no comment is left of an object that is gone: each that is left was there, of an object that is the same
+-- no comment on a gone object is left: each comment that is left was there before, on an object in both inventories
 abbrev pub CommentsAreOfObjectsThatStand : Type 0
 CommentsAreOfObjectsThatStand = (old new : Configuration) (w : World) → IsInventory new → All (IsOfSameObject old new w) (carried old w new).notes.comments
 
--- its downtimes are over, at object 0
+-- the downtimes of a gone object are over, at object 0
 abbrev pub DowntimesOfGoneObjectsAreOver : Type 0
 DowntimesOfGoneObjectsAreOver = (old new : Configuration) (w : World) (place : ℕ) (d : Downtime) → IsInventory new → slice_get w.downtimes place ≡ Some d → IsGoneObject old.objects new.objects d.object →
     slice_get (carried old w new).downtimes place ≡ Some (record d { object = 0; fate = Over })
 
--- a downtime whose trigger is one of them, and which has not started, has no start any more
+-- a downtime that waits for a trigger of a gone object, and has not started, can no longer start
 abbrev pub WhatWaitsForThemDoesNotStart : Type 0
 WhatWaitsForThemDoesNotStart = (old new : Configuration) (w : World) (d trigger : Downtime) → IsInventory new → d.plan.times.trigger_id ≢ 0 → record_of w.downtimes d.plan.times.trigger_id ≡ Some trigger → IsGoneObject old.objects new.objects trigger.object →
     start_of (carried old w new).downtimes d ≡ None
 
 -- ---- the ids and all else are unchanged, and nothing is printed
 
--- the clock, the program's switches, the greatest id of a comment and the ids of downtimes are as they were, and
--- the change adds no rejection, no notice and no entry
+-- the clock, the program's switches, the greatest id of a comment and the ids of downtimes are unchanged, and the
+-- change of the inventory adds no rejection, no notice and no entry
 pub record GoesOn (w w' : World) : Type 0 where
   pub clock : w'.clock ≡ w.clock
   pub program : w'.program ≡ w.program
@@ -115,12 +116,12 @@ pub record GoesOn (w w' : World) : Type 0 where
   pub entries : w'.entries ≡ w.entries
   pub before : w'.before ≡ w.before
 
--- all else of the world is as it was
+-- a change of the inventory leaves all else of the world unchanged
 abbrev pub AllElseGoesOn : Type 0
 AllElseGoesOn = (old new : Configuration) (w : World) → GoesOn w (carried old w new)
 
 -- ---- a carried world can be written and read back
 
--- a monitor of the new inventory can resume from it
+-- a monitor of the new inventory can resume from a carried world
 abbrev pub ACarriedWorldIsSaved : Type 0
 ACarriedWorldIsSaved = (old new : Configuration) (w : World) → IsInventory old → IsInventory new → IsSaved old w → HasPlaces w new → IsSaved new (carried old w new)

@@ -5,7 +5,7 @@ use Rattle.mon_inventory.specs.Lookups.{host_of, service_of}
 
 -- ---- in words
 
--- the names of the hosts are the same, and so are those of the services, or neither is a service
+-- both have the same host name, and the same service name or none
 pub record HaveSameNames (a b : ObjectSpec) : Type 0 where
   pub host : a.host ≡ b.host
   pub service : a.service ≡ b.service
@@ -27,18 +27,18 @@ pub record IsNewObject (old new : List ObjectSpec) (k : ℕ) (spec : ObjectSpec)
 abbrev pub IsGoneObject : (old new : List ObjectSpec) → ℕ → Type 0
 IsGoneObject old new j = (k : ℕ) → IsSameObject old new j k → ⊥
 
--- ---- as they are found
+-- ---- look-ups
 
--- the index of the object of these names, which is a host where no service is named
+-- the index of the object with these names; a host where no service is named
 abbrev pub place_named : List ObjectSpec → (host : List ℕ) → (service : Option (List ℕ)) → Option ℕ
 place_named objects host None = host_of objects host
 place_named objects host (Some service) = service_of objects host service
 
--- the index, among these objects, of the one that has the names of this one
+-- the index, in this list, of the object with the same names as `spec`
 abbrev pub place_in : List ObjectSpec → ObjectSpec → Option ℕ
 place_in objects spec = place_named objects spec.host spec.service
 
--- the index, among these objects, of the one that has the names of this object, where there is one
+-- the same for an optional object; none where there is no object
 abbrev pub place_of : List ObjectSpec → Option ObjectSpec → Option ℕ
 place_of objects None = None
 place_of objects (Some spec) = place_in objects spec

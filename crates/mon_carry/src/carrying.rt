@@ -1,5 +1,5 @@
 //! Makes the parts of a monitor under a new inventory from its parts under the old one, or returns a `CarryFault`. The
-//! old parts are consumed; they are dropped where there is a fault.
+//! old parts are consumed; after a fault they are dropped.
 ghost use Rattle.std.specs.Prelude.{◌≡◌, ◌≢◌, ◌↔◌, [], IsTrue, IfOk, IfErr};
 ghost use Rattle.mon_inventory.specs.Facts.{IsInventory};
 ghost use Rattle.mon_engine.specs.Saved.{IsSaved};
@@ -33,7 +33,7 @@ use std::alloc::Global;
 #[derive(Clone, Copy, Debug, PartialEq, Eq)]
 pub enum CarryFault {
     Memory,
-    /// The new inventory has no object, but a downtime was scheduled at some time, and its record has to name an
+    /// The new inventory has no object, but a downtime was once scheduled, and the record of a downtime has to name an
     /// object.
     NoObject,
 }
@@ -58,16 +58,16 @@ fn has_places(downtimes: &[Downtime], new: &Inventory) -> bool
 }
 
 /// Makes the parts from which a monitor of the new inventory resumes, from the parts of a monitor of the old one
-/// (profile). Objects and contacts are the same where their names are. An object that is the same keeps its state,
-/// comments and downtimes, at its new index; where its attempt reaches the new greatest attempt, its state is hard, at
-/// that attempt, and a problem that becomes hard so begins at the clock. A new object begins as before the first entry.
-/// The comments of an object that is gone are removed, and its downtimes are over. A contact that is the same keeps its
-/// switches; those of a new contact are on. The clock, the program's switches, the ids and the count of entries are
-/// unchanged.
+/// (profile). Objects and contacts with the same names are the same. An object in both inventories keeps its state,
+/// comments and downtimes, at its new index; where its attempt reaches the new greatest attempt, its state becomes
+/// hard, at that attempt, and a problem that becomes hard in this way begins at the clock. A new object begins as
+/// before the first entry. The comments of an object that is gone are removed, and its downtimes are over. A contact in
+/// both inventories keeps its switches; those of a new contact are on. The clock, the program's switches, the ids and
+/// the count of entries are unchanged.
 ///
-/// Requires that these parts fit the old inventory ([`misfit`](mon_engine::Parts::misfit)); then the parts that it returns
-/// fit the new one. Where it returns an error, the parts are dropped. The time is linear in the number of objects,
-/// contacts, comments and downtimes.
+/// Requires that these parts fit the old inventory ([`misfit`](mon_engine::Parts::misfit)); the returned parts then fit
+/// the new one. After an error the parts are dropped. The time is linear in the number of objects, contacts, comments
+/// and downtimes.
 ///
 /// # Errors
 /// [`CarryFault::NoObject`] where the new inventory has no object and a downtime was ever scheduled; this is tested

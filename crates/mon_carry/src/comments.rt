@@ -1,4 +1,4 @@
-//! The comments under a new inventory: the comments of objects that are the same, each at the new index of its object.
+//! The comments under a new inventory: each comment on an object in both inventories gets the new index of its object.
 //! The comments of objects that are gone are dropped.
 ghost use Rattle.std.specs.Prelude.{◌≡◌, IfOk};
 ghost use Rattle.std.specs.List.{filter_map};
@@ -21,8 +21,8 @@ fn comment_on(comment: Comment, place: Option<u16>) -> Option<Comment>
     }
 }
 
-/// Makes the list of the comments of objects that are the same, in order and with their ids, each at the new index of
-/// its object. Drops the other comments; if memory runs out, drops all.
+/// Makes the list of the comments on objects in both inventories, in order and with their ids, each at the new index
+/// of its object. Drops all other comments; if memory runs out, drops all.
 pub fn carry_comments(
     alloc: Global,
     old: &Inventory,

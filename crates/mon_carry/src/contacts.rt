@@ -1,5 +1,5 @@
-//! The switches of the contacts under a new inventory. Contacts are the same where their names are; nothing else of a
-//! contact is read.
+//! The switches of the contacts under a new inventory. Contacts with the same name are the same; nothing else of a
+//! contact is compared.
 ghost use Rattle.std.specs.Prelude.{◌≡◌, IfOk, length, map};
 ghost use Rattle.mon_carry.specs.Carried.{contact_carried};
 

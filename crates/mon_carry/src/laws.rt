@@ -5,9 +5,9 @@ ghost use Rattle.mon_carry.specs.CarryLaws.{NewObjectsBegin, NewObjectsHaveNoCom
 ghost use Rattle.mon_carry.specs.CarryLaws.{CommentsAreOfObjectsThatStand, DowntimesOfGoneObjectsAreOver, WhatWaitsForThemDoesNotStart};
 ghost use Rattle.mon_carry.specs.CarryLaws.{AllElseGoesOn, ACarriedWorldIsSaved};
 
-/// An object whose names are in both inventories keeps its state, its comments and its downtimes, at whatever index;
-/// its status alone changes where its attempt reaches the new greatest attempt. A contact whose name is in both keeps
-/// its switches. Under the same inventory nothing changes (profile).
+/// An object whose names are in both inventories keeps its state, its comments and its downtimes, whatever its index.
+/// Its status and the beginning of its hard problem change only where its attempt reaches the new greatest attempt. A
+/// contact whose name is in both keeps its switches. Under the same inventory nothing changes (profile).
 pub fn what_is_the_same_stands()
     ensures objects { ObjectsStand }
     ensures statuses { StatusesStand }
@@ -27,7 +27,7 @@ pub fn what_is_new_begins()
     ensures contacts { NewContactsBegin }
 {}
 
-/// Each comment that remains is on an object that is the same. The downtimes of an object that is gone are over, at
+/// Each comment that remains is on an object in both inventories. The downtimes of an object that is gone are over, at
 /// object 0. A downtime that has one of these as its trigger and has not started can no longer start (profile).
 pub fn what_is_gone_is_over()
     ensures comments { CommentsAreOfObjectsThatStand }
@@ -42,8 +42,8 @@ pub fn ids_go_on_and_nothing_is_told()
 {}
 
 /// A monitor of the new inventory can resume from the parts that are carried to it: they fit that inventory (profile).
-/// The law requires parts that can be saved under the old inventory and, where there is a downtime, an object in the new
-/// one.
+/// The law requires parts that can be saved under the old inventory and, where there is a downtime, an object in the
+/// new one.
 pub fn a_carried_world_is_saved()
     ensures { ACarriedWorldIsSaved }
 {}

@@ -1,5 +1,6 @@
-//! Carries the parts of a monitor from an old inventory to a new one (`carry`). Objects and contacts are the same where
-//! their names are; an old object whose names are not in the new inventory is gone. `specs/Carried.antt` has the rule.
+//! Carries the parts of a monitor from an old inventory to a new one (`carry`). Objects and contacts with the same
+//! names are the same; an old object whose names are not in the new inventory is gone. `specs/Carried.antt` has the
+//! rule.
 #![tactic(auto)]
 
 mod carrying;

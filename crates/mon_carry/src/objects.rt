@@ -28,8 +28,8 @@ fn status_within(max: u64, status: Status) -> Status
     }
 }
 
-/// Brings the state of an object within a new greatest attempt `max`. A problem that becomes hard by it begins at the
-/// second `clock`. Nothing else of the object changes.
+/// Brings the state of an object within a new greatest attempt `max`. A problem that becomes hard in this way begins at
+/// the second `clock`. Nothing else of the object changes.
 fn bring_within(object: &mut Object, clock: u64, max: u64)
     ensures { object.new ≡ object_within clock max object.old }
 {

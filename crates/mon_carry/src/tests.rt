@@ -22,7 +22,7 @@ host;web;3;1800;d,u,r,s;ann
 service;web;http;3;600;w,u,c,r,s;ann
 ";
 
-/// The same with a contact, a host and a service before the others, and 2 as the greatest attempt of http.
+/// The worked inventory with a contact, a host and a service before the others, and 2 as the greatest attempt of http.
 const NEW: &[u8] = b"contact;cid;d,u,r,s;w,u,c,r,s
 contact;ann;d,u,r,s;w,u,c,r,s
 contact;bob;d,r;c,r
@@ -56,7 +56,7 @@ fn object(alloc: Global, service: bool) -> Object {
     }
 }
 
-/// An acknowledged problem of a service, of which one notice went out.
+/// A service with an acknowledged problem and one notice sent.
 fn critical(alloc: Global) -> Result<Object, Memory> {
     let mut http = object(alloc, true);
     http.status = Status {

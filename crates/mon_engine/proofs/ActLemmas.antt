@@ -7,6 +7,7 @@ use Rattle.mon_downtime.specs.Schedule.{Fault, fault_of}
 use Rattle.mon_notes.specs.Comments.{comment_of, without, without_acknowledged}
 use Rattle.mon_inventory.specs.declared.records.ObjectSpec.{ObjectSpec}
 use Rattle.mon_inventory.specs.Configuration.{Configuration}
+use Rattle.mon_engine.specs.declared.notices.Occasion.TheVariants.{Check}
 use Rattle.mon_engine.specs.declared.object.Kind.{Kind}
 use Rattle.mon_engine.specs.declared.notice.Notice.{Notice}
 use Rattle.mon_engine.specs.declared.object.Acknowledgement.TheVariants.{Unacknowledged}
@@ -116,21 +117,21 @@ started_leaves inv w object = started_cases (λ (v : World). v ≡ record w { do
 -- a recovery, or a problem whose notice goes out
 pub noticed_when : (P : World → Type 0) (inv : Configuration) (w : World) (object : ℕ) (change : Change) → P w
     → (change.recovered ≡ true → AtObject inv w object (λ spec o. P (with_recovery w object (recovery_notice inv w object change.hard_recovery spec o))))
-    → (change.recovered ≡ false → AtObject inv w object (λ spec o. eqb o.status.code 0 ≡ false → (n : Notice) → problem_notice inv w object spec o ≡ Some n → P (with_problem w object (Some n))))
+    → (change.recovered ≡ false → AtObject inv w object (λ spec o. eqb o.status.code 0 ≡ false → (n : Notice) → problem_notice inv w Check object spec o ≡ Some n → P (with_problem w object (Some n))))
     → P (noticed inv w object change)
 unfolding noticed
 noticed_when P inv w object change same recovery problem = by_object (slice_get inv.objects object) (slice_get w.objects object) refl refl
   where
     by_notice : (spec : ObjectSpec) (o : Object) → change.recovered ≡ false → slice_get inv.objects object ≡ Some spec → slice_get w.objects object ≡ Some o → eqb o.status.code 0 ≡ false
-        → (n : Option Notice) → problem_notice inv w object spec o ≡ n → P (with_problem w object n)
+        → (n : Option Notice) → problem_notice inv w Check object spec o ≡ n → P (with_problem w object n)
     by_notice spec o r known at bad None e = same
     by_notice spec o r known at bad (Some n) e = problem r spec o known at bad n e
 
     by_change : (recovered well : Bool) (spec : ObjectSpec) (o : Object) → change.recovered ≡ recovered → slice_get inv.objects object ≡ Some spec → slice_get w.objects object ≡ Some o → eqb o.status.code 0 ≡ well
-        → P (if recovered then with_recovery w object (recovery_notice inv w object change.hard_recovery spec o) else (if well then w else with_problem w object (problem_notice inv w object spec o)))
+        → P (if recovered then with_recovery w object (recovery_notice inv w object change.hard_recovery spec o) else (if well then w else with_problem w object (problem_notice inv w Check object spec o)))
     by_change true well spec o r known at code = recovery r spec o known at
     by_change false true spec o r known at code = same
-    by_change false false spec o r known at code = by_notice spec o r known at code (problem_notice inv w object spec o) refl
+    by_change false false spec o r known at code = by_notice spec o r known at code (problem_notice inv w Check object spec o) refl
 
     by_object : (s : Option ObjectSpec) (o : Option Object) → slice_get inv.objects object ≡ s → slice_get w.objects object ≡ o → P (of_object w (noticed_by inv w object change) s o)
     by_object None o known at = same
@@ -139,7 +140,7 @@ noticed_when P inv w object change same recovery problem = by_object (slice_get 
 
 pub noticed_cases : (P : World → Type 0) (inv : Configuration) (w : World) (object : ℕ) (change : Change) → P w
     → AtObject inv w object (λ spec o. P (with_recovery w object (recovery_notice inv w object change.hard_recovery spec o)))
-    → AtObject inv w object (λ spec o. (n : Notice) → problem_notice inv w object spec o ≡ Some n → P (with_problem w object (Some n)))
+    → AtObject inv w object (λ spec o. (n : Notice) → problem_notice inv w Check object spec o ≡ Some n → P (with_problem w object (Some n)))
     → P (noticed inv w object change)
 noticed_cases P inv w object change same recovery problem = noticed_when P inv w object change same (λ r. recovery) (λ r spec o known at bad. problem spec o known at)
 

@@ -9,7 +9,7 @@ use Rattle.mon_engine.specs.declared.objects.Setting.TheVariants as settings
 use Rattle.mon_engine.specs.Objects.{custom_number, with_setting}
 use Rattle.mon_engine.specs.World.{World}
 use Rattle.mon_engine.specs.Notices.{told, after_custom}
-use Rattle.mon_engine.specs.Sound.{IsNoticeOf, IsWorld, Follows, ever}
+use Rattle.mon_engine.specs.Sound.{IsNoticeOf, IsWorld, Follows, ever, raised}
 use Rattle.mon_engine.proofs.ActLemmas.{custom_cases}
 use Rattle.mon_engine.proofs.NoticeLemmas.{IfAny, custom_notice_as, sound_as}
 use Rattle.mon_engine.proofs.StateLemmas.{changed_states, same_status}
@@ -30,9 +30,9 @@ custom_follows inv w object options h =
     (λ spec o known at n e. (let number = custom_number options o in
     let sound = sound_as _ (custom_notice_as inv w object number options spec o (slice_get_within inv.objects object spec known)) in
     record {
-      world = with_states inv (ever w + 1) (ever w + 1) (told w (Some n)) _ (omega arith) (with_more_notices inv (ever w + 1) w _ next (subst (IfAny (IsNoticeOf inv)) e sound))
-          (changed_states (ever w + 1) (ever w + 1) inv.objects w.objects object (with_setting (settings.Number number)) (omega arith) next.states (λ spec o a s. same_status spec o _ refl refl s)
-          (λ x few. number_small (ever w) options o (h.states.numbers object o at)));
+      world = with_states inv (ever w + 1) (raised w + 1) (raised w + 1) (told w (Some n)) _ (with_more_notices inv (ever w + 1) (raised w + 1) w _ next (subst (IfAny (IsNoticeOf inv)) e sound))
+          (changed_states (raised w + 1) (raised w + 1) inv.objects w.objects object (with_setting (settings.Number number)) (omega arith) next.states (λ spec o a s. same_status spec o _ refl refl s)
+          (λ x few. number_small (raised w) options o (h.states.numbers object o at)));
       entries = refl;
       before = refl;
     }))

@@ -1,5 +1,5 @@
 -- An act that adds a comment adds it each time that it is done.
-use Rattle.std.proofs.Common.{◌≡◌, ℕ, ◌+◌, Bool, true, false, eqb, List, [], ◌∷◌, ◌++◌, Some, Ok, Err, slice_get, if◌then◌else◌, append_assoc, refl, ap, sym, ◌∙◌, arith}
+use Rattle.std.proofs.Common.{◌≡◌, ℕ, ◌+◌, Bool, true, false, eqb, List, [], ◌∷◌, ◌++◌, Some, Ok, Err, slice_get, if◌then◌else◌, append_assoc, inl, inr, refl, ap, sym, ◌∙◌, subst, arith}
 use Rattle.cmd_types.specs.declared.command.Command.{Command}
 use Rattle.cmd_types.specs.declared.entry.Entry.{Entry}
 use Rattle.mon_notes.specs.declared.comment.Comment.{Comment}
@@ -10,14 +10,16 @@ use Rattle.mon_engine.specs.declared.outcome.Reason.TheVariants.{NotAProblem}
 use Rattle.mon_engine.specs.declared.outcome.Outcome.{Outcome}
 use Rattle.mon_engine.specs.declared.outcome.Outcome.TheVariants.{Applied}
 use Rattle.mon_engine.specs.Places.{changed_at}
-use Rattle.mon_engine.specs.Objects.{with_acknowledgement, acknowledgement_of}
+use Rattle.mon_engine.specs.Objects.{after_told, with_acknowledgement, acknowledgement_of}
 use Rattle.mon_engine.specs.World.{World}
+use Rattle.mon_engine.specs.ByClock.{told_by_clock}
 use Rattle.mon_engine.specs.Effects as acts
 use Rattle.mon_engine.specs.Effects.{Act, act, named}
 use Rattle.mon_engine.specs.Acknowledgements.{commented, acknowledge, told_acknowledged, acknowledged_by, after_acknowledge}
-use Rattle.mon_engine.specs.Step.{counted, step}
+use Rattle.mon_engine.specs.Step.{counted, acted, step}
 use Rattle.mon_engine.specs.Laws.{moment_of, comment_by, DoubledCommentsShow}
 use Rattle.mon_engine.proofs.ActLemmas.{ok_is, acknowledge_cases}
+use Rattle.mon_engine.proofs.ByClockLemmas.{clock_leaves, clock_object}
 use Rattle.mon_engine.proofs.EntryLemmas.{found, applied_from, applied_by, found_clock, found_notes, kept_objects, end_notes}
 use Rattle.mon_engine.proofs.ListLemmas.{changed_here}
 
@@ -75,36 +77,50 @@ brings inv v b time id c (acts.Acknowledge object sticky notify persistent autho
 brings inv v b time id c _ e h l t = absurd (cc)
 
 -- an act that was done, and adds a comment, can be done again
-again : (inv : Configuration) (v b v2 : World) (time id : ℕ) (c : Comment) (a : Act) → act inv v a ≡ Ok b → comment_by a time id ≡ Some c → v2.objects ≡ b.objects → (b2 : World) × (act inv v2 a ≡ Ok b2)
+again : (inv : Configuration) (v b v2 : World) (time id : ℕ) (c : Comment) (a : Act) → act inv v a ≡ Ok b → comment_by a time id ≡ Some c → ((object : ℕ) → IsProblemAt b.objects object → IsProblemAt v2.objects object)
+    → (b2 : World) × (act inv v2 a ≡ Ok b2)
 unfolding act
-again inv v b v2 time id c (acts.AddComment object persistent author text) e h same = (commented v2 object false persistent author text, refl)
-again inv v b v2 time id c (acts.Acknowledge object sticky notify persistent author text) e h same = acknowledged_again inv v2 object sticky notify persistent author text (rw same (acknowledged_problem inv v b object sticky notify persistent author text e))
-again inv v b v2 time id c _ e h same = absurd (cc)
+again inv v b v2 time id c (acts.AddComment object persistent author text) e h still = (commented v2 object false persistent author text, refl)
+again inv v b v2 time id c (acts.Acknowledge object sticky notify persistent author text) e h still = acknowledged_again inv v2 object sticky notify persistent author text (still object (acknowledged_problem inv v b object sticky notify persistent author text e))
+again inv v b v2 time id c _ e h still = absurd (cc)
 
 -- ---- entries
 
 -- one entry adds one comment
-adds : (inv : Configuration) (w : World) (e : Entry) (a : Act) (id : ℕ) (c : Comment) → (step inv w e).1 ≡ Applied → named inv e.stamped.command ≡ Ok a → comment_by a (moment_of w e) id ≡ Some c → id ≡ w.notes.last_id + 1
+adds : (inv : Configuration) (w : World) (e : Entry) (a : Act) (id : ℕ) (c : Comment) → (acted inv w e).1 ≡ Applied → named inv e.stamped.command ≡ Ok a → comment_by a (moment_of w e) id ≡ Some c → id ≡ w.notes.last_id + 1
     → (step inv w e).0.notes ≡ record { comments = w.notes.comments ++ c ∷ []; last_id = id }
+unfolding step
 adds inv w e a id c applied asked is l =
     let from = applied_from inv w e a applied asked in
     let notes : (found inv w e).notes ≡ w.notes = found_notes inv w e in
     let next : id ≡ (found inv w e).notes.last_id + 1 = l ∙ ap (λ (n : CommentList). n.last_id + 1) (sym notes) in
-    ap (λ (p : World × Outcome). p.0.notes) from.2
+    ap (λ (x : World). x.notes) (clock_leaves inv (acted inv w e).0)
+    ∙ ap (λ (p : World × Outcome). p.0.notes) from.2
     ∙ end_notes inv from.0 (moment_of w e)
     ∙ brings inv (found inv w e) from.0 (moment_of w e) id c a from.1 is next (found_clock inv w e)
     ∙ ap (λ (n : CommentList). record { comments = n.comments ++ c ∷ []; last_id = id }) notes
 
-applied_again : (inv : Configuration) (w : World) (first second : Entry) (a : Act) (id : ℕ) (c : Comment) → (step inv w first).1 ≡ Applied → named inv first.stamped.command ≡ Ok a → named inv second.stamped.command ≡ Ok a
-    → comment_by a (moment_of w first) id ≡ Some c → (step inv (step inv w first).0 second).1 ≡ Applied
+-- a problem is one also once the clock has told
+still_problem : (inv : Configuration) (w : World) (object : ℕ) → IsProblemAt w.objects object → IsProblemAt (told_by_clock inv w).objects object
+still_problem inv w object h = elim (clock_object inv w object h.0 h.1) [
+  | inl same ↦ (h.0, same, h.2)
+  | inr told ↦ (after_told w.clock h.0, told.0, h.2)
+]
+
+applied_again : (inv : Configuration) (w : World) (first second : Entry) (a : Act) (id : ℕ) (c : Comment) → (acted inv w first).1 ≡ Applied → named inv first.stamped.command ≡ Ok a → named inv second.stamped.command ≡ Ok a
+    → comment_by a (moment_of w first) id ≡ Some c → (acted inv (step inv w first).0 second).1 ≡ Applied
+unfolding step
 applied_again inv w first second a id c applied asked asked2 is =
     let from = applied_from inv w first a applied asked in
-    let v2 = found inv (step inv w first).0 second in
-    let objects : v2.objects ≡ from.0.objects = kept_objects inv (step inv w first).0 (moment_of (step inv w first).0 second) ∙ ap (λ (p : World × Outcome). p.0.objects) from.2 ∙ kept_objects inv (counted from.0) (moment_of w first) in
-    let on = again inv (found inv w first) from.0 v2 (moment_of w first) id c a from.1 is objects in
-    ap (λ (p : World × Outcome). p.1) (applied_by inv (step inv w first).0 second a on.0 asked2 on.1)
+    let v = (acted inv w first).0 in
+    let u = told_by_clock inv v in
+    let same : v.objects ≡ from.0.objects = ap (λ (p : World × Outcome). p.0.objects) from.2 ∙ kept_objects inv (counted from.0) (moment_of w first) in
+    let on = again inv (found inv w first) from.0 (found inv u second) (moment_of w first) id c a from.1 is
+    (λ object problem. subst (λ (os : List Object). IsProblemAt os object) (sym (kept_objects inv u (moment_of u second))) (still_problem inv v object (subst (λ (os : List Object). IsProblemAt os object) (sym same) problem))) in
+    ap (λ (p : World × Outcome). p.1) (applied_by inv u second a on.0 asked2 on.1)
 
 pub doubled_comments_show : DoubledCommentsShow
+unfolding step
 doubled_comments_show inv w first second a c d applied asked same is is2 =
     let asked2 : named inv second.stamped.command ≡ Ok a = ap (λ (x : Command). named inv x) same ∙ asked in
     let after = applied_again inv w first second a (w.notes.last_id + 1) c applied asked asked2 is in

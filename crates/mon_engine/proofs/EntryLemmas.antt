@@ -10,7 +10,7 @@ use Rattle.mon_engine.specs.declared.outcome.Outcome.TheVariants.{Applied, Rejec
 use Rattle.mon_engine.specs.World.{World}
 use Rattle.mon_engine.specs.Effects.{Act, act, named}
 use Rattle.mon_engine.specs.Clock.{due_in, fired, drained, advanced}
-use Rattle.mon_engine.specs.Step.{act_on, settled, closed_at, counted, step}
+use Rattle.mon_engine.specs.Step.{act_on, settled, closed_at, counted, acted}
 use Rattle.mon_engine.specs.Laws.{moment_of, RejectedEntriesChangeNothing}
 use Rattle.mon_engine.proofs.ClockLemmas.{drained_none, drained_keeps, nothing_is_left}
 
@@ -46,8 +46,8 @@ found inv w e = advanced inv w (moment_of w e)
 pub entry_cases : (inv : Configuration) (w : World) (e : Entry) (P : World × Outcome → Type 0)
     → ((why : Reason) → P (closed_at inv (moment_of w e) (settled (found inv w e) e.sender e.place (Err why))))
     → ((a : Act) (b : World) → named inv e.stamped.command ≡ Ok a → act inv (found inv w e) a ≡ Ok b → P (closed_at inv (moment_of w e) (b, Applied)))
-    → P (step inv w e)
-unfolding step
+    → P (acted inv w e)
+unfolding acted
 entry_cases inv w e P rejected applied = by_named (named inv e.stamped.command) refl
   where
     by_act : (a : Act) → named inv e.stamped.command ≡ Ok a → (r : Result World Reason) → act inv (found inv w e) a ≡ r → P (closed_at inv (moment_of w e) (settled (found inv w e) e.sender e.place r))
@@ -59,14 +59,14 @@ entry_cases inv w e P rejected applied = by_named (named inv e.stamped.command) 
     by_named (Ok a) n = by_act a n (act inv (found inv w e) a) refl
 
 -- an entry that is applied, by what its act leaves
-pub applied_by : (inv : Configuration) (w : World) (e : Entry) (a : Act) (b : World) → named inv e.stamped.command ≡ Ok a → act inv (found inv w e) a ≡ Ok b → step inv w e ≡ closed_at inv (moment_of w e) (b, Applied)
-unfolding step
+pub applied_by : (inv : Configuration) (w : World) (e : Entry) (a : Act) (b : World) → named inv e.stamped.command ≡ Ok a → act inv (found inv w e) a ≡ Ok b → acted inv w e ≡ closed_at inv (moment_of w e) (b, Applied)
+unfolding acted
 applied_by inv w e a b n h =
     ap (λ (r : Result Act Reason). closed_at inv (moment_of w e) (settled (found inv w e) e.sender e.place (act_on inv (found inv w e) r))) n
     ∙ ap (λ (r : Result World Reason). closed_at inv (moment_of w e) (settled (found inv w e) e.sender e.place r)) h
 
-pub applied_from : (inv : Configuration) (w : World) (e : Entry) (a : Act) → (step inv w e).1 ≡ Applied → named inv e.stamped.command ≡ Ok a
-    → (b : World) × (act inv (found inv w e) a ≡ Ok b) × (step inv w e ≡ closed_at inv (moment_of w e) (b, Applied))
+pub applied_from : (inv : Configuration) (w : World) (e : Entry) (a : Act) → (acted inv w e).1 ≡ Applied → named inv e.stamped.command ≡ Ok a
+    → (b : World) × (act inv (found inv w e) a ≡ Ok b) × (acted inv w e ≡ closed_at inv (moment_of w e) (b, Applied))
 applied_from inv w e a applied asked = entry_cases inv w e
     (λ p. p.1 ≡ Applied → (b : World) × (act inv (found inv w e) a ≡ Ok b) × (p ≡ closed_at inv (moment_of w e) (b, Applied)))
     (λ why k. absurd (cc))

@@ -1,5 +1,7 @@
 -- No entry reads the lists of what was told, nor how many entries there were: what it does is the same behind any lists and counts.
-use Rattle.std.proofs.Common.{◌≡◌, ℕ, ◌+◌, Bool, true, false, eqb, if◌then◌else◌, List, [], ◌∷◌, ◌++◌, Option, Some, None, Result, Ok, Err, slice_get, option_to_list, fold, max, refl, ap, sym, ◌∙◌, append_assoc, append-nil, arith}
+use Rattle.std.proofs.Common.{◌≡◌, ℕ, ◌+◌, Bool, true, false, eqb, if◌then◌else◌, List, [], ◌∷◌, ◌++◌, Option, Some, None, Result, Ok, Err, slice_get, option_to_list, fold, length, drop, max, refl, ap, sym, ◌∙◌, append_assoc, append-nil, arith}
+use Rattle.std.specs.List.{range_with_len}
+use Rattle.std.proofs.Math.Seq.{drop-append_seam}
 use Rattle.cmd_types.specs.declared.entry.Entry.{Entry}
 use Rattle.mon_checks.specs.declared.transition.Change.{Change}
 use Rattle.mon_checks.specs.States.{change_by}
@@ -12,7 +14,8 @@ use Rattle.mon_downtime.specs.Schedule.{Fault, fault_of}
 use Rattle.mon_downtime.specs.Clock.{happening}
 use Rattle.mon_notes.specs.Comments.{comment_of}
 use Rattle.mon_inventory.specs.declared.records.ObjectSpec.{ObjectSpec}
-use Rattle.mon_inventory.specs.Configuration.{Configuration}
+use Rattle.mon_inventory.specs.Configuration.{Configuration, tells_by_clock}
+use Rattle.mon_engine.specs.declared.notices.Occasion.TheVariants.{Check, Clock}
 use Rattle.mon_engine.specs.declared.object.Kind.{Kind}
 use Rattle.mon_engine.specs.declared.notice.Notice.{Notice}
 use Rattle.mon_engine.specs.declared.object.Object.{Object}
@@ -24,14 +27,15 @@ use Rattle.mon_engine.specs.declared.outcome.Rejection.{Rejection}
 use Rattle.mon_engine.specs.Places.{changed_at}
 use Rattle.mon_engine.specs.Objects.{is_acknowledged, custom_number, reset}
 use Rattle.mon_engine.specs.World.{World}
-use Rattle.mon_engine.specs.Notices.{told, downtime_notice, acknowledgement_notice, problem_notice, recovery_notice, of_object, noticed, noticed_by, with_problem, custom_notice, with_custom, after_custom, after_custom_of}
+use Rattle.mon_engine.specs.Notices.{told, downtime_notice, acknowledgement_notice, problem_notice, recovery_notice, of_object, noticed, noticed_by, with_problem, told_problem_of, told_problem, custom_notice, with_custom, after_custom, after_custom_of}
 use Rattle.mon_engine.specs.Results.{is_taken, is_hard_problem, started_all, with_started, with_result, after_taken, after_result_of, after_check_result}
 use Rattle.mon_engine.specs.Acknowledgements.{acknowledge, told_acknowledged, acknowledged_by, after_acknowledge, unacknowledged_by, after_unacknowledge, after_del_comment, has_comment_by}
 use Rattle.mon_engine.specs.Downtimes.{with_records, has_downtime_by, told_cancelled, after_cancel, after_del_downtime}
 use Rattle.mon_engine.specs.Clock.{event_notice, with_event, fired, drained, advanced}
+use Rattle.mon_engine.specs.ByClock.{told_among, told_by_clock}
 use Rattle.mon_engine.specs.Effects as acts
 use Rattle.mon_engine.specs.Effects.{Act, act, named}
-use Rattle.mon_engine.specs.Step.{act_on, settled, effect, counted, closed_at, step}
+use Rattle.mon_engine.specs.Step.{act_on, settled, effect, counted, closed_at, acted, step}
 use Rattle.mon_engine.specs.Telling.{with_lists, forgotten, TheListsAreNotRead}
 
 -- a world with what was listed and counted before it
@@ -115,14 +119,14 @@ module _ (rs : List Rejection) (ns : List Notice) (many earlier : ℕ) where
   problem_behind w object None = refl
   problem_behind w object (Some n) = ap (λ (v : World). record v { objects = (with_problem w object (Some n)).objects }) (told_behind w (Some n))
 
+  unless_well : (w : World) (object : ℕ) (well : Bool) (n : Option Notice) → (if well then behind rs ns many earlier w else with_problem (behind rs ns many earlier w) object n) ≡ behind rs ns many earlier (if well then w else with_problem w object n)
+  unless_well w object true n = refl
+  unless_well w object false n = problem_behind w object n
+
   noticed_behind : (inv : Configuration) (w : World) (object : ℕ) (change : Change) → noticed inv (behind rs ns many earlier w) object change ≡ behind rs ns many earlier (noticed inv w object change)
   unfolding noticed problem_notice recovery_notice
   noticed_behind inv w object change = by_object (slice_get inv.objects object) (slice_get w.objects object)
     where
-      by_code : (b : Bool) (n : Option Notice) → (if b then behind rs ns many earlier w else with_problem (behind rs ns many earlier w) object n) ≡ behind rs ns many earlier (if b then w else with_problem w object n)
-      by_code true n = refl
-      by_code false n = problem_behind w object n
-
       by_recovered : (b : Bool) (v u x y : World) → v ≡ behind rs ns many earlier u → x ≡ behind rs ns many earlier y → (if b then v else x) ≡ behind rs ns many earlier (if b then u else y)
       by_recovered true v u x y e f = e
       by_recovered false v u x y e f = f
@@ -132,7 +136,16 @@ module _ (rs : List Rejection) (ns : List Notice) (many earlier : ℕ) where
       by_object (Some spec) None = refl
       by_object (Some spec) (Some o) = by_recovered change.recovered _ _ _ _
           (ap (λ (v : World). record v { objects = changed_at w.objects object reset }) (told_behind w (recovery_notice inv w object change.hard_recovery spec o)))
-          (by_code (eqb o.status.code 0) (problem_notice inv w object spec o))
+          (unless_well w object (eqb o.status.code 0) (problem_notice inv w Check object spec o))
+
+  told_problem_behind : (inv : Configuration) (w : World) (object : ℕ) → told_problem inv Clock (behind rs ns many earlier w) object ≡ behind rs ns many earlier (told_problem inv Clock w object)
+  unfolding told_problem problem_notice
+  told_problem_behind inv w object = by_object (slice_get inv.objects object) (slice_get w.objects object)
+    where
+      by_object : (spec : Option ObjectSpec) (o : Option Object) → of_object (behind rs ns many earlier w) (told_problem_of inv (behind rs ns many earlier w) Clock object) spec o ≡ behind rs ns many earlier (of_object w (told_problem_of inv w Clock object) spec o)
+      by_object None o = refl
+      by_object (Some spec) None = refl
+      by_object (Some spec) (Some o) = unless_well w object (eqb o.status.code 0) (problem_notice inv w Clock object spec o)
 
   taken_behind : (inv : Configuration) (w : World) (object code : ℕ) (output : List ℕ) (spec : ObjectSpec) (o : Object) → after_taken inv (behind rs ns many earlier w) object code output spec o ≡ behind rs ns many earlier (after_taken inv w object code output spec o)
   taken_behind inv w object code output spec o =
@@ -228,11 +241,27 @@ module _ (rs : List Rejection) (ns : List Notice) (many earlier : ℕ) where
       ∙ ap (λ (k : ℕ). paired (advanced inv (record (behind rs ns many earlier x.0) { entries = k }) t) x.1) count
       ∙ ap (λ (w : World). paired w x.1) (advanced_behind inv (counted x.0) t)
 
-  pub step_behind : (inv : Configuration) (w : World) (e : Entry) → step inv (behind rs ns many earlier w) e ≡ and_behind rs ns many earlier (step inv w e)
-  unfolding step
-  step_behind inv w e =
+  acted_behind : (inv : Configuration) (w : World) (e : Entry) → acted inv (behind rs ns many earlier w) e ≡ and_behind rs ns many earlier (acted inv w e)
+  unfolding acted
+  acted_behind inv w e =
       ap (λ (v : World). closed_at inv (max w.clock e.stamped.time) (effect inv v e)) (advanced_behind inv w (max w.clock e.stamped.time))
       ∙ entry_behind inv (advanced inv w (max w.clock e.stamped.time)) e (max w.clock e.stamped.time)
+
+  clock_behind : (inv : Configuration) (w : World) → told_by_clock inv (behind rs ns many earlier w) ≡ behind rs ns many earlier (told_by_clock inv w)
+  unfolding told_by_clock
+  clock_behind inv w = by_option (tells_by_clock inv)
+    where
+      each : (v : World) (ks : List ℕ) → fold (told_problem inv Clock) (behind rs ns many earlier v) ks ≡ behind rs ns many earlier (fold (told_problem inv Clock) v ks)
+      each v [] = refl
+      each v (k ∷ ks) = ap (λ (x : World). fold (told_problem inv Clock) x ks) (told_problem_behind inv v k) ∙ each (told_problem inv Clock v k) ks
+
+      by_option : (b : Bool) → (if b then told_among inv (behind rs ns many earlier w) (length inv.objects) else behind rs ns many earlier w) ≡ behind rs ns many earlier (if b then told_among inv w (length inv.objects) else w)
+      by_option true = each w (range_with_len 0 (length inv.objects))
+      by_option false = refl
+
+  pub step_behind : (inv : Configuration) (w : World) (e : Entry) → step inv (behind rs ns many earlier w) e ≡ and_behind rs ns many earlier (step inv w e)
+  unfolding step
+  step_behind inv w e = ap (λ (p : World × Outcome). paired (told_by_clock inv p.0) p.1) (acted_behind inv w e) ∙ ap (λ (v : World). paired v (acted inv w e).1) (clock_behind inv (acted inv w e).0)
 
 -- behind lists alone nothing is counted
 uncounted : (rs : List Rejection) (ns : List Notice) (w : World) → with_lists rs ns w ≡ behind rs ns 0 0 w
@@ -241,15 +270,22 @@ uncounted rs ns w =
     let before : w.before ≡ 0 + w.before = omega arith in
     ap (λ (n : ℕ). record (with_lists rs ns w) { entries = n }) entries ∙ ap (λ (n : ℕ). record (with_lists rs ns w) { entries = 0 + w.entries; before = n }) before
 
+rejoined : (v : World) → v ≡ behind v.rejections v.notices 0 0 (forgotten v)
+rejoined v =
+    ap (λ (xs : List Rejection). record v { rejections = xs }) (sym (append-nil v.rejections))
+    ∙ ap (λ (xs : List Notice). record v { rejections = v.rejections ++ []; notices = xs }) (sym (append-nil v.notices))
+    ∙ uncounted v.rejections v.notices (forgotten v)
+
+-- what an entry does adds to the notices
+pub acted_grows : (inv : Configuration) (w : World) (e : Entry) → (acted inv w e).0.notices ≡ w.notices ++ drop (length w.notices) (acted inv w e).0.notices
+acted_grows inv w e =
+    let new = (acted inv (forgotten w) e).0.notices in
+    let is : (acted inv w e).0.notices ≡ w.notices ++ new = ap (λ p. p.0.notices) (ap (λ (v : World). acted inv v e) (rejoined w) ∙ acted_behind w.rejections w.notices 0 0 inv (forgotten w) e) in
+    is ∙ ap (λ (x : List Notice). w.notices ++ x) (sym (ap (drop (length w.notices)) is ∙ drop-append_seam w.notices new))
+
 -- no entry reads the lists
 pub the_lists_are_not_read : TheListsAreNotRead
 the_lists_are_not_read inv w e =
     ap (λ (v : World). step inv v e) (rejoined w)
     ∙ step_behind w.rejections w.notices 0 0 inv (forgotten w) e
     ∙ ap (λ (v : World). paired v (step inv (forgotten w) e).1) (sym (uncounted w.rejections w.notices (step inv (forgotten w) e).0))
-  where
-    rejoined : (v : World) → v ≡ behind v.rejections v.notices 0 0 (forgotten v)
-    rejoined v =
-        ap (λ (xs : List Rejection). record v { rejections = xs }) (sym (append-nil v.rejections))
-        ∙ ap (λ (xs : List Notice). record v { rejections = v.rejections ++ []; notices = xs }) (sym (append-nil v.notices))
-        ∙ uncounted v.rejections v.notices (forgotten v)

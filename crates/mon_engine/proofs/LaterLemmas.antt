@@ -28,7 +28,7 @@ use Rattle.mon_engine.specs.World.{World}
 use Rattle.mon_engine.specs.Results.{is_hard_problem, with_result, started_all, with_started, after_taken}
 use Rattle.mon_engine.specs.Effects as acts
 use Rattle.mon_engine.specs.Effects.{act}
-use Rattle.mon_engine.specs.Step.{closed_at, counted, step, meaning}
+use Rattle.mon_engine.specs.Step.{closed_at, counted, acted, meaning}
 use Rattle.mon_engine.specs.NoticeLaws.{IsInNoDowntime, IsProblemToTell, IsUndisturbed, TellsTheProblem, AProblemIsToldAfterAnyJournal}
 use Rattle.mon_engine.specs.Clock.{fired, advanced}
 use Rattle.mon_engine.specs.Laws.{moment_of}
@@ -221,12 +221,12 @@ taken_free first done inv w e object code output spec o after at lasting h quiet
     begun : b.downtimes ≡ all_started v.downtimes object t
     begun = ap (λ (x : World). x.downtimes) (noticed_leaves inv u object (change_by o.status code)) ∙ hard_started inv with_it object hard ∙ ap (all_started v.downtimes object) (found_clock inv w e)
 
-told_afterwards : DueIsFirst → NothingIsLeft → (inv : Configuration) (w : World) (e : Entry) (object : ℕ) → AreLasting w.downtimes → TellsTheProblem inv w e object (IsInNoDowntime inv (step inv w e).0 object)
+told_afterwards : DueIsFirst → NothingIsLeft → (inv : Configuration) (w : World) (e : Entry) (object : ℕ) → AreLasting w.downtimes → TellsTheProblem inv w e object (IsInNoDowntime inv (acted inv w e).0 object)
 unfolding act
 told_afterwards first done inv w e object lasting code output spec before after applied asked h quiet =
     a_problem_is_told inv w e object code output spec before after applied asked h (subst P (sym from.2) (check_result_cases (λ (b : World). P (closed_at inv (moment_of w e) (b, Applied))) inv (found inv w e) from.0 object code output from.1 by_object) h quiet)
   where
-    from : (b : World) × (act inv (found inv w e) (acts.CheckResult object code output) ≡ Ok b) × (step inv w e ≡ closed_at inv (moment_of w e) (b, Applied))
+    from : (b : World) × (act inv (found inv w e) (acts.CheckResult object code output) ≡ Ok b) × (acted inv w e ≡ closed_at inv (moment_of w e) (b, Applied))
     from = applied_from inv w e (acts.CheckResult object code output) applied asked
 
     P : World × Outcome → Type 0

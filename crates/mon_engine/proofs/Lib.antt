@@ -37,8 +37,11 @@ pub mod SilenceLemmas
 pub mod FirstLemmas
 pub mod UnlessLemmas
 pub mod WithheldLemmas
+pub mod ByClockLemmas
+pub mod WakeLemmas
 pub mod RecoveryLemmas
 pub mod RepeatLemmas
+pub mod SuppressedLemmas
 pub mod OnceLemmas
 pub mod LaterLemmas
 pub mod ForgottenLemmas
@@ -48,3 +51,4 @@ pub mod ResumedLemmas
 pub mod TargetLemmas
 pub mod SaidLemmas
 pub mod SavedLemmas
+pub mod HeldLemmas

@@ -69,6 +69,14 @@ changed_here [] k f y e = absurd (cc)
 changed_here (x ∷ xs) zero f y e = let same : x ≡ y = cc in ap (λ z. Some (f z)) same
 changed_here (x ∷ xs) (suc k) f y e = ap (λ ys. slice_get ys (suc k)) (changed_cons x xs k f) ∙ changed_here xs k f y e
 
+-- any other place is as it was
+pub changed_other : {A : Type 0} (xs : List A) (k j : ℕ) (f : A → A) → (k ≡ j → ⊥) → slice_get (changed_at xs k f) j ≡ slice_get xs j
+changed_other [] k j f other = refl
+changed_other (x ∷ xs) zero zero f other = absurd (other refl)
+changed_other (x ∷ xs) zero (suc j) f other = refl
+changed_other (x ∷ xs) (suc k) zero f other = ap (λ ys. slice_get ys 0) (changed_cons x xs k f)
+changed_other (x ∷ xs) (suc k) (suc j) f other = ap (λ ys. slice_get ys (suc j)) (changed_cons x xs k f) ∙ changed_other xs k j f (λ e. other (ap suc e))
+
 -- what is read at a place is as it was where the change leaves it alone
 pub changed_reads : {A X : Type 0} (read : Option A → X) (xs : List A) (k j : ℕ) (f : A → A) → ((a : A) → read (Some (f a)) ≡ read (Some a)) → read (slice_get (changed_at xs k f) j) ≡ read (slice_get xs j)
 changed_reads read [] k j f keeps = refl

@@ -15,7 +15,7 @@ use Rattle.mon_engine.specs.World.{World}
 use Rattle.mon_engine.specs.Notices.{downtime_notice}
 use Rattle.mon_engine.specs.Effects.{Act, act, named}
 use Rattle.mon_engine.specs.Clock.{due_in, fired, with_event, advanced}
-use Rattle.mon_engine.specs.Step.{settled, closed_at, counted, step}
+use Rattle.mon_engine.specs.Step.{settled, closed_at, counted, acted}
 use Rattle.mon_engine.specs.Laws.{moment_of}
 use Rattle.mon_engine.specs.NoticeLaws.{went_out}
 use Rattle.mon_engine.proofs.ClockLemmas.{drained_keeps, nothing_is_left}
@@ -101,7 +101,7 @@ pub news_are : (each : WhatIsDueHappens) (done : NothingIsLeft) (inv : Configura
     → ((a : Act) (b : World) → named inv e.stamped.command ≡ Ok a → act inv (found inv w e) a ≡ Ok b
     → More (P (closed_at inv (moment_of w e) (b, Applied))) (found inv w e).notices b.notices
     × ((b.downtimes ≡ (found inv w e).downtimes) ⊎ ((n : Notice) → TellsOfDowntime inv b n → P (closed_at inv (moment_of w e) (b, Applied)) n)))
-    → All (P (step inv w e)) (went_out w (step inv w e).0)
+    → All (P (acted inv w e)) (went_out w (acted inv w e).0)
 news_are each done inv w e P timely acted = entry_cases inv w e (λ p. All (P p) (went_out w p.0))
     (λ why. refused (settled (found inv w e) e.sender e.place (Err why)).0 (Rejected why) refl refl)
     (λ a b n h. more_went (P (closed b Applied)) w (closed b Applied).0 (more_after (P (closed b Applied)) w.notices b.notices (closed b Applied).0.notices

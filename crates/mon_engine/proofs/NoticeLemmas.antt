@@ -15,6 +15,7 @@ use Rattle.mon_notify.specs.declared.letter.Letter.{Letter}
 use Rattle.mon_notify.specs.Recipients.{recipients, is_told}
 use Rattle.mon_notify.specs.Custom.{custom_recipients, is_custom_told}
 use Rattle.mon_engine.specs.declared.object.Object.{Object}
+use Rattle.mon_engine.specs.declared.notices.Occasion.{Occasion}
 use Rattle.mon_engine.specs.declared.notice.Notice.{Notice}
 use Rattle.mon_engine.specs.declared.notice.Subject.{Subject}
 use Rattle.mon_engine.specs.declared.notice.Word.{Word}
@@ -88,9 +89,9 @@ unfolding acknowledgement_notice
 acknowledgement_notice_as inv w object =
     of_object_as (IsAs inv Acknowledgement object) inv (acknowledgement_notice_of inv w object) object w.objects (λ h spec o. if_any (IsAs inv Acknowledgement object) _ _ (addressed_as inv w.contacts _ _ true h))
 
-pub problem_notice_as : (inv : Configuration) (w : World) (object : ℕ) (spec : ObjectSpec) (o : Object) → object < length inv.objects → IfAny (IsAs inv Problem object) (problem_notice inv w object spec o)
+pub problem_notice_as : (inv : Configuration) (w : World) (occasion : Occasion) (object : ℕ) (spec : ObjectSpec) (o : Object) → object < length inv.objects → IfAny (IsAs inv Problem object) (problem_notice inv w occasion object spec o)
 unfolding problem_notice
-problem_notice_as inv w object spec o h = if_any (IsAs inv Problem object) _ _ (addressed_as inv w.contacts _ _ true h)
+problem_notice_as inv w occasion object spec o h = if_any (IsAs inv Problem object) _ _ (addressed_as inv w.contacts _ _ true h)
 
 pub recovery_notice_as : (inv : Configuration) (w : World) (object : ℕ) (hard : Bool) (spec : ObjectSpec) (o : Object) → object < length inv.objects → IfAny (IsAs inv Recovery object) (recovery_notice inv w object hard spec o)
 unfolding recovery_notice

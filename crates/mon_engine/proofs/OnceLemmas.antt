@@ -35,7 +35,7 @@ problems ns = count_by (λ n. is_problem_word n.subject.word) ns
 abbrev OneMore : (before after : List Notice) → Type 0
 OneMore before after = (new : List Notice) × (after ≡ before ++ new) × (problems new ≤ 1)
 
-problem_word : (word : Word) → is_problem_word word ≡ true → word ≡ words.Problem
+pub problem_word : (word : Word) → is_problem_word word ≡ true → word ≡ words.Problem
 problem_word words.Problem e = refl
 problem_word word e = absurd (cc)
 

@@ -13,51 +13,49 @@ use Rattle.mon_engine.specs.declared.object.Object.{Object}
 use Rattle.mon_engine.specs.declared.outcome.Rejection.{Rejection}
 use Rattle.mon_engine.specs.declared.switches.Program.{Program}
 use Rattle.mon_engine.specs.World.{World}
-use Rattle.mon_engine.specs.Sound.{IsNoticeOf, AreObjectStates, IsWorldAt, IsWorld, IsTellable, IsTimely, ever}
+use Rattle.mon_engine.specs.Sound.{IsNoticeOf, AreObjectStates, IsWorldAt, IsWorld, IsTellable, IsTimely, ever, raised}
 use Rattle.mon_engine.proofs.StateLemmas.{later_states}
 
 -- ---- worlds with one part changed
 
 -- later all bounds are greater
-pub later : (inv : Configuration) (n m : ℕ) (w : World) → n ≤ m → IsWorldAt inv n w → IsWorldAt inv m w
-later inv n m w l h =
+pub later : (inv : Configuration) (n m k l : ℕ) (w : World) → n ≤ k → m ≤ l → IsWorldAt inv n m w → IsWorldAt inv k l w
+later inv n m k l w more up h =
     let comments = h.comments in
     let downtimes = h.downtimes in
     record {
       clock = h.clock;
-      states = later_states n m inv.objects w.objects l h.states;
+      states = later_states m l inv.objects w.objects up h.states;
       contacts = h.contacts;
-      comments = omega (arith, l, comments);
+      comments = omega (arith, more, comments);
       noted = h.noted;
-      downtimes = omega (arith, l, downtimes);
+      downtimes = omega (arith, more, downtimes);
       known = h.known;
       notices = h.notices;
       limit = h.limit;
       earlier = h.earlier;
     }
 
-pub next_world : (inv : Configuration) (w : World) → IsWorld inv w → IsWorldAt inv (ever w + 1) w
-next_world inv w h = later inv (ever w) (ever w + 1) w (omega arith) h
+pub next_world : (inv : Configuration) (w : World) → IsWorld inv w → IsWorldAt inv (ever w + 1) (raised w + 1) w
+next_world inv w h = later inv (ever w) (raised w) (ever w + 1) (raised w + 1) w (omega arith) (omega arith) h
 
-pub with_states : (inv : Configuration) (n m : ℕ) (w : World) (os : List Object) → n ≤ m → IsWorldAt inv n w → AreObjectStates m inv.objects os → IsWorldAt inv m (record w { objects = os })
-with_states inv n m w os l h states =
-    let more = later inv n m w l h in
-    record {
-      clock = more.clock;
-      states = states;
-      contacts = more.contacts;
-      comments = more.comments;
-      noted = more.noted;
-      downtimes = more.downtimes;
-      known = more.known;
-      notices = more.notices;
-      limit = more.limit;
-      earlier = more.earlier;
-    }
+pub with_states : (inv : Configuration) (n m l : ℕ) (w : World) (os : List Object) → IsWorldAt inv n m w → AreObjectStates l inv.objects os → IsWorldAt inv n l (record w { objects = os })
+with_states inv n m l w os h states = record {
+  clock = h.clock;
+  states = states;
+  contacts = h.contacts;
+  comments = h.comments;
+  noted = h.noted;
+  downtimes = h.downtimes;
+  known = h.known;
+  notices = h.notices;
+  limit = h.limit;
+  earlier = h.earlier;
+}
 
-pub with_notes : (inv : Configuration) (n : ℕ) (w : World) (notes : CommentList) → IsWorldAt inv n w → notes.last_id ≤ n → All (λ c. c.object < length inv.objects) notes.comments
-    → IsWorldAt inv n (record w { notes = notes })
-with_notes inv n w notes h few noted = record {
+pub with_notes : (inv : Configuration) (n m : ℕ) (w : World) (notes : CommentList) → IsWorldAt inv n m w → notes.last_id ≤ n → All (λ c. c.object < length inv.objects) notes.comments
+    → IsWorldAt inv n m (record w { notes = notes })
+with_notes inv n m w notes h few noted = record {
   clock = h.clock;
   states = h.states;
   contacts = h.contacts;
@@ -71,9 +69,9 @@ with_notes inv n w notes h few noted = record {
 }
 
 -- the parts that nothing else is measured by
-pub with_others : (inv : Configuration) (n : ℕ) (w : World) (clock : ℕ) (program : Program) (rejections : List Rejection) (entries : ℕ) → clock ≤ GREATEST_NUMBER → entries ≤ GREATEST_LIMIT → IsWorldAt inv n w
-    → IsWorldAt inv n (record w { clock = clock; program = program; rejections = rejections; entries = entries })
-with_others inv n w clock program rejections entries small few h = record {
+pub with_others : (inv : Configuration) (n m : ℕ) (w : World) (clock : ℕ) (program : Program) (rejections : List Rejection) (entries : ℕ) → clock ≤ GREATEST_NUMBER → entries ≤ GREATEST_LIMIT → IsWorldAt inv n m w
+    → IsWorldAt inv n m (record w { clock = clock; program = program; rejections = rejections; entries = entries })
+with_others inv n m w clock program rejections entries small few h = record {
   clock = small;
   states = h.states;
   contacts = h.contacts;
@@ -86,8 +84,8 @@ with_others inv n w clock program rejections entries small few h = record {
   earlier = h.earlier;
 }
 
-pub with_contacts : (inv : Configuration) (n : ℕ) (w : World) (cs : List ContactSwitch) → IsWorldAt inv n w → length cs ≡ length inv.contacts → IsWorldAt inv n (record w { contacts = cs })
-with_contacts inv n w cs h many = record {
+pub with_contacts : (inv : Configuration) (n m : ℕ) (w : World) (cs : List ContactSwitch) → IsWorldAt inv n m w → length cs ≡ length inv.contacts → IsWorldAt inv n m (record w { contacts = cs })
+with_contacts inv n m w cs h many = record {
   clock = h.clock;
   states = h.states;
   contacts = many;
@@ -105,8 +103,8 @@ pub record AreDowntimesAt (inv : Configuration) (n : ℕ) (ds : List Downtime) :
   pub few : length ds ≤ MOST_OBJECTS * n
   pub known : All (λ d. d.object < length inv.objects) ds
 
-pub with_downtimes : (inv : Configuration) (n : ℕ) (w : World) (ds : List Downtime) → IsWorldAt inv n w → AreDowntimesAt inv n ds → IsWorldAt inv n (record w { downtimes = ds })
-with_downtimes inv n w ds h downtimes = record {
+pub with_downtimes : (inv : Configuration) (n m : ℕ) (w : World) (ds : List Downtime) → IsWorldAt inv n m w → AreDowntimesAt inv n ds → IsWorldAt inv n m (record w { downtimes = ds })
+with_downtimes inv n m w ds h downtimes = record {
   clock = h.clock;
   states = h.states;
   contacts = h.contacts;
@@ -119,8 +117,8 @@ with_downtimes inv n w ds h downtimes = record {
   earlier = h.earlier;
 }
 
-pub with_more_notices : (inv : Configuration) (n : ℕ) (w : World) (ns : List Notice) → IsWorldAt inv n w → All (IsNoticeOf inv) ns → IsWorldAt inv n (record w { notices = w.notices ++ ns })
-with_more_notices inv n w ns h sound = record {
+pub with_more_notices : (inv : Configuration) (n m : ℕ) (w : World) (ns : List Notice) → IsWorldAt inv n m w → All (IsNoticeOf inv) ns → IsWorldAt inv n m (record w { notices = w.notices ++ ns })
+with_more_notices inv n m w ns h sound = record {
   clock = h.clock;
   states = h.states;
   contacts = h.contacts;
@@ -133,14 +131,14 @@ with_more_notices inv n w ns h sound = record {
   earlier = h.earlier;
 }
 
-pub tellable : (inv : Configuration) (n : ℕ) (w : World) → IsWorldAt inv n w → IsTellable inv w
-tellable inv n w h = record { objects = h.states.as_many; contacts = h.contacts }
+pub tellable : (inv : Configuration) (n m : ℕ) (w : World) → IsWorldAt inv n m w → IsTellable inv w
+tellable inv n m w h = record { objects = h.states.as_many; contacts = h.contacts }
 
-pub timely : (inv : Configuration) (n : ℕ) (w : World) → IsWorldAt inv n w → IsTimely inv w
-timely inv n w h = record { tellable = tellable inv n w h; known = h.known }
+pub timely : (inv : Configuration) (n m : ℕ) (w : World) → IsWorldAt inv n m w → IsTimely inv w
+timely inv n m w h = record { tellable = tellable inv n m w h; known = h.known }
 
 -- a world that another one of the same entries leads to
-pub record Reaches (inv : Configuration) (n : ℕ) (w w' : World) : Type 0 where
-  pub world : IsWorldAt inv n w'
+pub record Reaches (inv : Configuration) (n m : ℕ) (w w' : World) : Type 0 where
+  pub world : IsWorldAt inv n m w'
   pub entries : w'.entries ≡ w.entries
   pub before : w'.before ≡ w.before

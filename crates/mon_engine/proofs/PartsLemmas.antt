@@ -1,5 +1,5 @@
 -- Objects are looked at one after another, each by its line.
-use Rattle.std.proofs.Common.{◌≡◌, ℕ, ◌+◌, ◌<◌, ◌≤◌, List, length, get_or, min, Option, Some, None, slice_get, refl, sym, subst, arith, inl, inr}
+use Rattle.std.proofs.Common.{◌≡◌, ℕ, ◌+◌, ◌*◌, ◌<◌, ◌≤◌, List, length, get_or, min, Option, Some, None, slice_get, refl, sym, subst, arith, inl, inr}
 use Rattle.std.specs.Prelude.{All}
 use Rattle.std.proofs.lemmas.Bool.{cases_lt}
 use Rattle.std.proofs.lemmas.Option.{slice_get_cases, slice_get_past, slice_get_read, slice_get_within, slice_get-get_or, get_or_from_slice_get}
@@ -46,7 +46,7 @@ module _ (before : ℕ) (specs : List ObjectSpec) (os : List Object) where
   ]
 
   -- objects that are in their states and were said fit their lines
-  pub states_fit : AreObjectStates before specs os → All IsSaidObject os → (n : ℕ) → ObjectFits before specs os n
+  pub states_fit : AreObjectStates (2 * before) specs os → All IsSaidObject os → (n : ℕ) → ObjectFits before specs os n
   states_fit states said n = elim (slice_get_cases specs n).1 [
     | inl spec ↦ elim (slice_get_cases os n).1 [
       | inl o ↦ fits_line n (Some spec.0) (Some o.0) spec.2 o.2 (record {
@@ -76,7 +76,7 @@ module _ (before : ℕ) (specs : List ObjectSpec) (os : List Object) where
       | inr beyond ↦ absurd (let low = beyond.0 in let within = slice_get_within os k o here in omega (arith, low, within, long))
     ]
 
-    pub fit_states : AreObjectStates before specs os
+    pub fit_states : AreObjectStates (2 * before) specs os
     fit_states = record {
       as_many = long;
       each = λ k spec o at here. (line_fits k (Some spec) (Some o) at here (all_fit k)).state;

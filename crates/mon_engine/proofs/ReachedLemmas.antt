@@ -21,6 +21,7 @@ use Rattle.mon_notify.specs.Objects as kinds
 use Rattle.mon_notify.specs.Objects.{own_contacts}
 use Rattle.mon_notify.specs.Recipients.{recipients, is_on, takes_at, is_told, escalates, candidates_by}
 use Rattle.mon_notify.specs.Viable.{is_open, problem_viable, recovery_viable}
+use Rattle.mon_engine.specs.declared.notices.Occasion.{Occasion}
 use Rattle.mon_engine.specs.declared.notice.Notice.{Notice}
 use Rattle.mon_engine.specs.declared.notice.Subject.{Subject}
 use Rattle.mon_engine.specs.declared.notice.Word.{Word}
@@ -28,8 +29,8 @@ use Rattle.mon_engine.specs.declared.notice.Word.TheVariants as words
 use Rattle.mon_engine.specs.declared.object.Object.{Object}
 use Rattle.mon_engine.specs.Objects.{is_service}
 use Rattle.mon_engine.specs.World.{World}
-use Rattle.mon_engine.specs.Notices.{to_someone, addressed, both_on, of_object, facts, subject_of, downtime_notice, acknowledgement_notice, problem_notice, recovery_notice, custom_notice}
-use Rattle.mon_engine.specs.NoticeLaws.{is_service_at, IsContactOf, letter_asked, has_letter_at, notifies}
+use Rattle.mon_engine.specs.Notices.{to_someone, addressed, both_on, of_object, facts, problem_facts, subject_of, downtime_notice, acknowledgement_notice, problem_notice, recovery_notice, custom_notice}
+use Rattle.mon_engine.specs.NoticeLaws.{is_service_at, IsContactOf, IsReached, letter_asked, has_letter_at, notifies}
 use Rattle.mon_engine.proofs.NoticeLemmas.{is_of_downtime}
 use Rattle.mon_engine.proofs.ToldLemmas.{viable_open}
 
@@ -66,12 +67,6 @@ custom_contact inv object number code options escalated c h = by (is_broadcast o
     by false k = candidate_contact inv object number (letter_of (is_service_at inv object) code) escalated c k
 
 -- ---- who is reached
-
--- the contact is reached by this, with these switches of the contacts
-pub record IsReached (inv : Configuration) (switches : List ContactSwitch) (s : Subject) (c : ℕ) : Type 0 where
-  pub contact : IsContactOf inv s.object c
-  pub switch_on : is_on_at (is_service_at inv s.object) (slice_get switches c) ≡ true
-  pub letter_on : (l : Letter) → letter_asked (is_service_at inv s.object) s.code s.word ≡ Some l → has_letter_at (is_service_at inv s.object) l (slice_get inv.contacts c) ≡ true
 
 takes_parts : (service : Bool) (l : Letter) (k : Option ContactSpec) (x : Option ContactSwitch) → takes_at service l k x ≡ true → (is_on_at service x ≡ true) × (has_letter_at service l k ≡ true)
 takes_parts service l None x h = absurd (cc)
@@ -159,13 +154,13 @@ acknowledgement_plain inv u object n e =
     addressed_plain inv u (subject_of u.clock words.Acknowledgement object t.1 t.1.number) (letter_of (is_service t.0) t.1.status.code) true n may.1
     (ap (λ (l : Letter). Some l) (state_letter inv object t.1.status.code t.0 t.2)) on.0 (ap notifies t.3 ∙ on.1)
 
-pub problem_plain : (inv : Configuration) (u : World) (object : ℕ) (spec : ObjectSpec) (o : Object) (n : Notice) → slice_get inv.objects object ≡ Some spec → slice_get u.objects object ≡ Some o → problem_notice inv u object spec o ≡ Some n → IsPlain inv u n
+pub problem_plain : (inv : Configuration) (u : World) (occasion : Occasion) (object : ℕ) (spec : ObjectSpec) (o : Object) (n : Notice) → slice_get inv.objects object ≡ Some spec → slice_get u.objects object ≡ Some o → problem_notice inv u occasion object spec o ≡ Some n → IsPlain inv u n
 unfolding problem_notice
-problem_plain inv u object spec o n known at e =
+problem_plain inv u occasion object spec o n known at e =
     let l = letter_of (is_service spec) o.status.code in
     let s = subject_of u.clock words.Problem object o (o.number + 1) in
-    let may = passed (problem_viable (facts inv u object spec o l)) (addressed inv u.contacts s l true) n e in
-    let on = viable_open (facts inv u object spec o l) may.0 in
+    let may = passed (problem_viable (problem_facts inv u occasion object spec o)) (addressed inv u.contacts s l true) n e in
+    let on = viable_open (problem_facts inv u occasion object spec o) may.0 in
     addressed_plain inv u s l true n may.1 (ap (λ (x : Letter). Some x) (state_letter inv object o.status.code spec known)) on.program_on (ap notifies at ∙ on.object_on)
 
 -- what the tests of any notice but a forced custom one say

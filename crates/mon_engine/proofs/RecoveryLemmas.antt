@@ -1,20 +1,18 @@
 -- A recovery is told: where its problem was hard and notified, and nothing holds the notice back, the notice goes out.
-use Rattle.std.proofs.Common.{◌≡◌, ◌≢◌, ℕ, ◌<◌, Bool, true, false, ◌&&◌, not, eqb, nat_lt, if◌then◌else◌, List, [], ◌∷◌, ◌++◌, length, Option, Some, None, Contains, slice_get, refl, ap, sym, ◌∙◌, subst}
+use Rattle.std.proofs.Common.{◌≡◌, ℕ, ◌<◌, Bool, true, false, ◌&&◌, not, eqb, nat_lt, if◌then◌else◌, List, [], ◌∷◌, ◌++◌, length, Option, Some, None, Contains, slice_get, refl, ap, sym, ◌∙◌, subst}
 use Rattle.std.proofs.lemmas.Bool.{and_from, ne_eqb, not_from_false, lt-ltb}
 use Rattle.std.proofs.lemmas.Option.{same_Some}
 use Rattle.cmd_types.specs.declared.entry.Entry.{Entry}
 use Rattle.mon_checks.specs.declared.transition.Change.{Change}
 use Rattle.mon_checks.specs.States.{change_by, recovers}
-use Rattle.mon_downtime.specs.declared.downtime.Downtime.{Downtime}
 use Rattle.mon_downtime.specs.Records.{depth_of}
 use Rattle.mon_inventory.specs.declared.records.ObjectSpec.{ObjectSpec}
 use Rattle.mon_inventory.specs.Configuration.{Configuration, passive_hosts_soft}
 use Rattle.mon_notify.specs.declared.contacts.ContactSwitch.{ContactSwitch}
-use Rattle.mon_notify.specs.declared.facts.Facts.{Facts}
 use Rattle.mon_notify.specs.declared.letter.Letter.TheVariants as letter
-use Rattle.mon_notify.specs.Objects as kinds
 use Rattle.mon_notify.specs.Recipients.{recipients}
 use Rattle.mon_notify.specs.Viable.{is_open, recovery_viable}
+use Rattle.mon_engine.specs.declared.notices.Occasion.TheVariants.{Check}
 use Rattle.mon_engine.specs.declared.notice.Notice.{Notice}
 use Rattle.mon_engine.specs.declared.notice.Word.TheVariants as words
 use Rattle.mon_engine.specs.declared.object.Object.{Object}
@@ -28,7 +26,7 @@ use Rattle.mon_engine.specs.Effects.{act}
 use Rattle.mon_engine.specs.Clock.{advanced}
 use Rattle.mon_engine.specs.Laws.{moment_of}
 use Rattle.mon_engine.specs.Step.{counted}
-use Rattle.mon_engine.specs.NoticeLaws.{went_out, is_service_at, recovery_of, IsRecoveryToTell, ARecoveryIsTold}
+use Rattle.mon_engine.specs.NoticeLaws.{went_out, recovery_of, IsRecoveryToTell, ARecoveryIsTold}
 use Rattle.mon_engine.proofs.ActLemmas.{check_result_cases}
 use Rattle.mon_engine.proofs.EntryLemmas.{found, found_clock, advanced_leaves, kept_objects, applied_from}
 use Rattle.mon_engine.proofs.FirstLemmas.{Any, went_through, started_more, open_is, addressed_some}
@@ -42,7 +40,7 @@ unfolding noticed
 noticed_recovery inv u object change spec o known at recovered =
     ap (λ (s : Option ObjectSpec). of_object u (noticed_by inv u object change) s (slice_get u.objects object)) known
     ∙ ap (λ (p : Option Object). of_object u (noticed_by inv u object change) (Some spec) p) at
-    ∙ ap (λ (b : Bool). if b then with_recovery u object (recovery_notice inv u object change.hard_recovery spec o) else (if eqb o.status.code 0 then u else with_problem u object (problem_notice inv u object spec o))) recovered
+    ∙ ap (λ (b : Bool). if b then with_recovery u object (recovery_notice inv u object change.hard_recovery spec o) else (if eqb o.status.code 0 then u else with_problem u object (problem_notice inv u Check object spec o))) recovered
 
 recovery_goes_out : (inv : Configuration) (u : World) (object : ℕ) (hard : Bool) (spec : ObjectSpec) (o : Object) → hard ≡ true → recovery_viable (facts inv u object spec o letter.R) ≡ true → 0 < length (recipients inv u.contacts object o.number letter.R true)
     → recovery_notice inv u object hard spec o ≡ Some (record { subject = subject_of u.clock words.Recovery object o o.number; contacts = recipients inv u.contacts object o.number letter.R true })

@@ -11,13 +11,14 @@ use Rattle.mon_engine.specs.World.{World}
 use Rattle.mon_engine.specs.Effects as acts
 use Rattle.mon_engine.specs.Effects.{Act, act}
 use Rattle.mon_engine.specs.Results.{with_result, with_started, after_check_result}
-use Rattle.mon_engine.specs.Step.{settled, closed_at, counted, step, meaning_from}
+use Rattle.mon_engine.specs.Step.{settled, closed_at, counted, acted, step, meaning_from}
 use Rattle.mon_engine.specs.Laws.{moment_of}
 use Rattle.mon_engine.specs.Telling.{Telling, telling_line, tellings, is_clock, news_between, forgotten}
 use Rattle.mon_engine.specs.Sound.{ever}
 use Rattle.mon_engine.specs.Saved.{going_on}
 use Rattle.mon_engine.specs.SavedLaws.{resumed, TheCountsAreNotRead, EachEntryIsCounted, GoingOnTwiceIsOnce, GoingOnMeansTheSame, GoingOnTellsTheSame, PartsMeanTheSame, PartsTellTheSame}
 use Rattle.mon_engine.proofs.ActLemmas.{act_leaves, check_result_cases, noticed_leaves, started_leaves}
+use Rattle.mon_engine.proofs.ByClockLemmas.{clock_leaves}
 use Rattle.mon_engine.proofs.EntryLemmas.{entry_cases, found, advanced_leaves}
 use Rattle.mon_engine.proofs.ForgottenLemmas.{step_behind, the_lists_are_not_read}
 use Rattle.mon_engine.proofs.TellingLemmas.{forgetting_tells_the_same}
@@ -37,9 +38,8 @@ act_counts inv v w (acts.CheckResult object code output) e = check_result_cases 
     (ap (λ (x : World). x.entries) noticed ∙ ap (λ (x : World). x.entries) started, ap (λ (x : World). x.before) noticed ∙ ap (λ (x : World). x.before) started)))
 act_counts inv v w a e = (let leaves = act_leaves inv v w a e in (ap (λ (x : World). x.entries) leaves, ap (λ (x : World). x.before) leaves))
 
--- an entry is counted once
-pub step_counts : (inv : Configuration) (w : World) (e : Entry) → IsCounted (w.entries + 1) w.before (step inv w e).0
-step_counts inv w e = entry_cases inv w e (λ p. IsCounted (w.entries + 1) w.before p.0)
+acted_counts : (inv : Configuration) (w : World) (e : Entry) → IsCounted (w.entries + 1) w.before (acted inv w e).0
+acted_counts inv w e = entry_cases inv w e (λ p. IsCounted (w.entries + 1) w.before p.0)
     (λ why. closed (settled (found inv w e) e.sender e.place (Err why)).0 (refl, refl))
     (λ a b n h. closed b (act_counts inv (found inv w e) b a h))
   where
@@ -50,6 +50,14 @@ step_counts inv w e = entry_cases inv w e (λ p. IsCounted (w.entries + 1) w.bef
           ap (λ (x : World). x.entries) after ∙ ap (λ (n : ℕ). n + 1) (h.0 ∙ ap (λ (x : World). x.entries) before),
           ap (λ (x : World). x.before) after ∙ h.1 ∙ ap (λ (x : World). x.before) before,
         )
+
+-- an entry is counted once
+pub step_counts : (inv : Configuration) (w : World) (e : Entry) → IsCounted (w.entries + 1) w.before (step inv w e).0
+unfolding step
+step_counts inv w e =
+    let leaves = clock_leaves inv (acted inv w e).0 in
+    let counts = acted_counts inv w e in
+    (ap (λ (x : World). x.entries) leaves ∙ counts.0, ap (λ (x : World). x.before) leaves ∙ counts.1)
 
 pub each_entry_is_counted : EachEntryIsCounted
 unfolding meaning_from

@@ -1,7 +1,7 @@
 -- What entries leave is such as commands say: each part of the world, after each act and as time goes on.
-use Rattle.std.proofs.Common.{◌≡◌, ℕ, ◌+◌, ◌<◌, ◌≤◌, Bool, true, false, not, ◌&&◌, eqb, if◌then◌else◌, List, [], ◌∷◌, ◌++◌, length, All, Option, Some, None, IfSome, Ok, slice_get, rules, refl, ap, sym, ◌∙◌, subst, arith}
+use Rattle.std.proofs.Common.{◌≡◌, ℕ, ◌+◌, ◌<◌, ◌≤◌, Bool, true, false, not, ◌&&◌, eqb, if◌then◌else◌, List, [], ◌∷◌, ◌++◌, length, get_or, All, Option, Some, None, is_some, IfSome, Ok, slice_get, rules, refl, ap, sym, ◌∙◌, subst, arith}
 use Rattle.std.proofs.lemmas.List.Elements.{All-nil, All-cons, All-push, All-append, All-filter, All-set, All-get_or}
-use Rattle.std.proofs.lemmas.Option.{slice_get_within, get_or_from_slice_get}
+use Rattle.std.proofs.lemmas.Option.{slice_get_within, slice_get-get_or, get_or_from_slice_get}
 use Rattle.cmd_types.specs.declared.limits.TheConstants.{GREATEST_NUMBER}
 use Rattle.cmd_types.specs.Bytes.{Lacks}
 use Rattle.mon_checks.specs.declared.status.Status.{Status}
@@ -31,11 +31,14 @@ use Rattle.mon_engine.specs.Notices.{noticed}
 use Rattle.mon_engine.specs.Results.{IsCodeAt, with_result, started_all, with_started, after_taken}
 use Rattle.mon_engine.specs.Downtimes.{after_cancel, told_cancelled}
 use Rattle.mon_engine.specs.Clock.{due_in, fired, advanced}
+use Rattle.mon_engine.specs.ByClock.{told_by_clock}
+use Rattle.mon_engine.specs.ByClockLaws.{ready_notice}
 use Rattle.mon_engine.specs.Effects as acts
 use Rattle.mon_engine.specs.Effects.{Act, act}
 use Rattle.mon_engine.specs.Sound.{AreObjectStates}
 use Rattle.mon_engine.specs.Saved.{IsSaid, IsSaidObject, IsSaidComment, IsSaidDowntime}
 use Rattle.mon_engine.proofs.ActLemmas.{ok_is, schedule_cases, del_comment_cases, acknowledge_cases, unacknowledge_cases, del_downtime_cases, started_cases, started_leaves, noticed_cases, noticed_leaves, check_result_cases, custom_cases, act_leaves}
+use Rattle.mon_engine.proofs.ByClockLemmas.{clock_cases}
 use Rattle.mon_engine.proofs.ClockLemmas.{drained_keeps}
 use Rattle.mon_engine.proofs.DowntimeLemmas.{changed_only, started_only, cancelled_only, fates_keep}
 use Rattle.mon_engine.proofs.TargetLemmas.{IsSaidSetting, IsSaidPlan, IsSaidAct}
@@ -241,3 +244,13 @@ objects_said inv n v w (acts.SendCustom object options) small states is e h =
     (custom_cases (λ (x : World). All IsSaidObject x.objects) inv v object options h
     (λ spec o known at notice sent. changed_said v.objects object (with_setting (settings.Number (custom_number options o))) (λ o2 at x. setting_said (settings.Number (custom_number options o)) o2 tt x) h))
 objects_said inv n v w a small states is e h = subst (All IsSaidObject) (sym (ap (λ (x : World). x.objects) (act_leaves inv v w a e))) h
+
+-- and what the clock leaves of them
+pub clock_said : (inv : Configuration) (w : World) → w.clock ≤ GREATEST_NUMBER → All IsSaidObject w.objects → All IsSaidObject (told_by_clock inv w).objects
+clock_said inv w small h = clock_cases inv w (λ (v : World). All IsSaidObject v.objects) h (λ v tells k d low. (let at = slice_get-get_or v.objects k d low in
+    let there = slice_get-get_or w.objects k d (let long = tells.as_many in omega (arith, low, long)) in
+    by (is_some (ready_notice inv w k)) (get_or v.objects k d) (get_or w.objects k d) (sym at ∙ tells.each k (get_or w.objects k d) there) (h k d (let long = tells.as_many in omega (arith, low, long)))))
+  where
+    by : (b : Bool) (o p : Object) → Some o ≡ Some (if b then after_told w.clock p else p) → IsSaidObject p → IsSaidObject o
+    by true o p same said = (let is : after_told w.clock p ≡ o = cc in subst IsSaidObject is (told_said w.clock p small said))
+    by false o p same said = (let is : p ≡ o = cc in subst IsSaidObject is said)

@@ -1,5 +1,5 @@
 -- What entries lead to can be written, once it has told, and read back.
-use Rattle.std.proofs.Common.{◌≡◌, ℕ, ◌+◌, ◌<◌, ◌≤◌, Bool, true, false, List, [], ◌∷◌, ◌++◌, length, map, All, Err, refl, ap, sym, subst, arith}
+use Rattle.std.proofs.Common.{◌≡◌, ℕ, ◌+◌, ◌*◌, ◌<◌, ◌≤◌, Bool, true, false, List, [], ◌∷◌, ◌++◌, length, map, All, Err, refl, ap, sym, subst, arith}
 use Rattle.std.proofs.lemmas.List.{length-map}
 use Rattle.std.proofs.lemmas.List.Elements.{All-nil, All-cons}
 use Rattle.cmd_types.specs.declared.entry.Entry.{Entry}
@@ -18,18 +18,20 @@ use Rattle.mon_engine.specs.declared.state.TheConstants.{GREATEST_BEFORE}
 use Rattle.mon_engine.specs.Objects.{is_service, initial_object}
 use Rattle.mon_engine.specs.World.{World, initial, initial_contact}
 use Rattle.mon_engine.specs.Clock.{advanced}
-use Rattle.mon_engine.specs.Step.{settled, counted, step, meaning_from}
+use Rattle.mon_engine.specs.ByClock.{told_by_clock}
+use Rattle.mon_engine.specs.Step.{settled, counted, acted, step, meaning_from}
 use Rattle.mon_engine.specs.Laws.{moment_of}
 use Rattle.mon_engine.specs.Telling.{forgotten}
-use Rattle.mon_engine.specs.Sound.{IsNoticeOf, IsWorldAt, IsWorld, Follows, ever}
+use Rattle.mon_engine.specs.Sound.{IsNoticeOf, IsWorldAt, IsWorld, Follows, ever, raised}
 use Rattle.mon_engine.specs.Saved.{IsSaidObject, IsSaidComment, IsSaidDowntime, IsSaved, going_on}
 use Rattle.mon_engine.specs.SavedLaws.{AreWellFormed, JournalsAreWellFormed, AnInitialWorldIsSaved, AWorldThatGoesOnIsSaved, AWorldOfEntriesIsSaved, AResumedWorldIsSaved, AWorldOfAJournalIsSaved}
 use Rattle.mon_engine.proofs.AskedLemmas.{named_fit, named_stands}
 use Rattle.mon_engine.proofs.TargetLemmas.{named_asks, asked_said, IsSaidAct}
+use Rattle.mon_engine.proofs.ByClockLemmas.{clock_leaves}
 use Rattle.mon_engine.proofs.EntryLemmas.{entry_cases, found, advanced_leaves, kept_objects}
 use Rattle.mon_engine.proofs.StateLemmas.{initial_states}
-use Rattle.mon_engine.proofs.SoundLemmas.{act_follows, rejected_follows, stepped, found_sound}
-use Rattle.mon_engine.proofs.SaidLemmas.{AreSaidNotes, AreSaidDowntimes, notes_said, downtimes_said, objects_said, advanced_said}
+use Rattle.mon_engine.proofs.SoundLemmas.{act_follows, rejected_follows, acted_sound, stepped, found_sound}
+use Rattle.mon_engine.proofs.SaidLemmas.{AreSaidNotes, AreSaidDowntimes, notes_said, downtimes_said, objects_said, clock_said, advanced_said}
 use Rattle.mon_engine.proofs.ResumedLemmas.{step_counts, each_entry_is_counted, going_on_means_the_same}
 
 -- ---- an entry
@@ -41,25 +43,32 @@ record IsGood (inv : Configuration) (w : World) : Type 0 where
   downtimes : AreSaidDowntimes w.downtimes
   objects : All IsSaidObject w.objects
 
+-- what an entry does to a world that is good, before the clock tells
+record IsDone (inv : Configuration) (w v : World) : Type 0 where
+  world : IsWorldAt inv (ever w + 1) (raised w + 1) v × (v.entries ≡ w.entries + 1) × (v.before ≡ w.before)
+  notes : AreSaidNotes v.notes
+  downtimes : AreSaidDowntimes v.downtimes
+  objects : All IsSaidObject v.objects
+
 -- what an effect leaves, once it is counted and time has gone on
-closed_good : (stay : RecordsStayRecords) (inv : Configuration) (w b : World) (t : ℕ) → IsWorld inv w → w.entries < GREATEST_LIMIT → t ≤ GREATEST_NUMBER → Follows inv (advanced inv w t) b
-    → AreSaidNotes b.notes → AreSaidDowntimes b.downtimes → All IsSaidObject b.objects → IsGood inv (advanced inv (counted b) t)
-closed_good stay inv w b t world room small f notes downtimes objects = record {
-  world = (stepped inv w (advanced inv w t) b b (advanced inv (counted b) t) t world room small refl f refl refl).0;
+closed_done : (stay : RecordsStayRecords) (inv : Configuration) (w b : World) (t : ℕ) → IsWorld inv w → w.entries < GREATEST_LIMIT → t ≤ GREATEST_NUMBER → Follows inv (advanced inv w t) b
+    → AreSaidNotes b.notes → AreSaidDowntimes b.downtimes → All IsSaidObject b.objects → IsDone inv w (advanced inv (counted b) t)
+closed_done stay inv w b t world room small f notes downtimes objects = record {
+  world = acted_sound inv w (advanced inv w t) b b (advanced inv (counted b) t) t world room small refl f refl refl;
   notes = subst AreSaidNotes (sym (ap (λ (x : World). x.notes) (advanced_leaves inv (counted b) t))) notes;
   downtimes = advanced_said stay inv (counted b) t downtimes;
   objects = subst (All IsSaidObject) (sym (kept_objects inv (counted b) t)) objects;
 }
 
-step_good : (order : CommentsStayInOrder) (stay : RecordsStayRecords) (inv : Configuration) (w : World) (e : Entry) → IsInventory inv → IsWellFormed e.stamped → w.entries < GREATEST_LIMIT → IsGood inv w → IsGood inv (step inv w e).0
-step_good order stay inv w e sound formed room h = entry_cases inv w e (λ p. IsGood inv p.0)
+acted_done : (order : CommentsStayInOrder) (stay : RecordsStayRecords) (inv : Configuration) (w : World) (e : Entry) → IsInventory inv → IsWellFormed e.stamped → w.entries < GREATEST_LIMIT → IsGood inv w → IsDone inv w (acted inv w e).0
+acted_done order stay inv w e sound formed room h = entry_cases inv w e (λ p. IsDone inv w p.0)
     (λ why. (let left = settled (found inv w e) e.sender e.place (Err why) in
-    closed_good stay inv w left.0 (moment_of w e) h.world room small (rejected_follows inv (found inv w e) (found inv w e) (found inv w e) left.0.rejections world refl refl) notes downtimes objects))
+    closed_done stay inv w left.0 (moment_of w e) h.world room small (rejected_follows inv (found inv w e) (found inv w e) (found inv w e) left.0.rejections world refl refl) notes downtimes objects))
     (λ a b n k. (let asked = named_asks inv e.stamped.command a sound n in
     let there = named_stands inv e.stamped.command a sound n in
     let fit = named_fit inv e.stamped.command a sound n formed.arguments in
     let said : IsSaidAct inv a = subst (IsSaidAct inv) (sym asked.asks) (asked_said inv e.stamped.command asked.target asked.there formed.arguments) in
-    closed_good stay inv w b (moment_of w e) h.world room small (act_follows inv (found inv w e) b a sound world there fit k)
+    closed_done stay inv w b (moment_of w e) h.world room small (act_follows inv (found inv w e) b a sound world there fit k)
     (notes_said order inv (found inv w e) b a world.clock said k notes)
     (downtimes_said stay inv (found inv w e) b a world.clock said k downtimes)
     (objects_said inv _ (found inv w e) b a world.clock world.states said k objects)))
@@ -79,6 +88,19 @@ step_good order stay inv w e sound formed room h = entry_cases inv w e (λ p. Is
     objects : All IsSaidObject (found inv w e).objects
     objects = subst (All IsSaidObject) (sym (kept_objects inv w (moment_of w e))) h.objects
 
+step_good : (order : CommentsStayInOrder) (stay : RecordsStayRecords) (inv : Configuration) (w : World) (e : Entry) → IsInventory inv → IsWellFormed e.stamped → w.entries < GREATEST_LIMIT → IsGood inv w → IsGood inv (step inv w e).0
+unfolding step
+step_good order stay inv w e sound formed room h =
+    let v : World = (acted inv w e).0 in
+    let done = acted_done order stay inv w e sound formed room h in
+    let leaves = clock_leaves inv v in
+    record {
+      world = (stepped inv w v (told_by_clock inv v) done.world refl).0;
+      notes = subst AreSaidNotes (sym (ap (λ (x : World). x.notes) leaves)) done.notes;
+      downtimes = subst AreSaidDowntimes (sym (ap (λ (x : World). x.downtimes) leaves)) done.downtimes;
+      objects = clock_said inv v done.world.0.clock done.objects;
+    }
+
 -- ---- entries
 
 means_good : (order : CommentsStayInOrder) (stay : RecordsStayRecords) (inv : Configuration) (w : World) (es : List Entry) → IsInventory inv → AreWellFormed es → w.entries + length es ≤ GREATEST_LIMIT → IsGood inv w → IsGood inv (meaning_from inv w es)
@@ -89,8 +111,8 @@ means_good order stay inv w (e ∷ es) sound formed room h =
     means_good order stay inv (step inv w e).0 es sound formed.1 (omega (arith, count, room)) (step_good order stay inv w e sound formed.0 (omega (arith, room)) h)
 
 -- a world that goes on holds together, where there is room to count on
-going_on_world : (inv : Configuration) (w : World) → ever w ≤ GREATEST_BEFORE → IsWorld inv w → IsWorld inv (going_on w)
-going_on_world inv w room h = subst (λ (n : ℕ). IsWorldAt inv n (going_on w)) same (record {
+pub going_on_world : (inv : Configuration) (w : World) → ever w ≤ GREATEST_BEFORE → IsWorld inv w → IsWorld inv (going_on w)
+going_on_world inv w room h = subst (λ (n : ℕ). IsWorldAt inv n (2 * n) (going_on w)) same (record {
   clock = h.clock;
   states = h.states;
   contacts = h.contacts;
@@ -130,8 +152,8 @@ good_from inv w h = record {
   objects = h.said.objects;
 }
 
-forgotten_world : (inv : Configuration) (n : ℕ) (w : World) → IsWorldAt inv n w → IsWorldAt inv n (forgotten w)
-forgotten_world inv n w h = record {
+pub forgotten_world : (inv : Configuration) (n m : ℕ) (w : World) → IsWorldAt inv n m w → IsWorldAt inv n m (forgotten w)
+forgotten_world inv n m w h = record {
   clock = h.clock;
   states = h.states;
   contacts = h.contacts;
@@ -146,7 +168,7 @@ forgotten_world inv n w h = record {
 
 saved_from : (inv : Configuration) (w : World) → ever w ≤ GREATEST_BEFORE → IsGood inv w → IsSaved inv (forgotten w)
 saved_from inv w room h = record {
-  world = forgotten_world inv (ever w) w h.world;
+  world = forgotten_world inv (ever w) (raised w) w h.world;
   notes = h.notes.list;
   records = h.downtimes.records;
   said = record { objects = h.objects; comments = h.notes.said; downtimes = h.downtimes.said };

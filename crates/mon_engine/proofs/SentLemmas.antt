@@ -11,6 +11,7 @@ use Rattle.mon_downtime.specs.Clock.{WhatIsDueHappens, NothingIsLeft}
 use Rattle.mon_inventory.specs.declared.records.ObjectSpec.{ObjectSpec}
 use Rattle.mon_inventory.specs.Configuration.{Configuration, passive_hosts_soft}
 use Rattle.mon_notify.specs.declared.contacts.ContactSwitch.{ContactSwitch}
+use Rattle.mon_engine.specs.declared.notices.Occasion.TheVariants.{Check, Clock}
 use Rattle.mon_engine.specs.declared.notice.Notice.{Notice}
 use Rattle.mon_engine.specs.declared.notice.Word.TheVariants.{Custom, DowntimeStart, DowntimeCancelled}
 use Rattle.mon_engine.specs.declared.object.Object.{Object}
@@ -27,14 +28,15 @@ use Rattle.mon_engine.specs.Downtimes.{after_cancel, told_cancelled}
 use Rattle.mon_engine.specs.Effects as acts
 use Rattle.mon_engine.specs.Effects.{Act, act, named}
 use Rattle.mon_engine.specs.Laws.{moment_of}
-use Rattle.mon_engine.specs.Step.{step}
-use Rattle.mon_engine.specs.NoticeLaws.{went_out, ForcesCustom, IsForced, IsContactOf, letter_asked, MayBeTold, OnlyWhoMayBeToldIsTold, is_service_at, notifies}
+use Rattle.mon_engine.specs.Step.{acted}
+use Rattle.mon_engine.specs.NoticeLaws.{went_out, ForcesCustom, IsForced, IsContactOf, IsReached, letter_asked, MayBeTold, OnlyWhoMayBeToldIsTold, TheClockTellsWhoMayBeTold, is_service_at, notifies}
 use Rattle.mon_engine.proofs.ActLemmas.{ok_is, acknowledge_cases, schedule_cases, del_downtime_cases, started_cases, noticed_cases, check_result_cases, custom_cases, act_leaves}
 use Rattle.mon_engine.proofs.EntryLemmas.{found, advanced_leaves}
 use Rattle.mon_engine.proofs.ListLemmas.{All-each, changed_reads}
 use Rattle.mon_engine.proofs.NoticeLemmas.{cancel_notice_as}
-use Rattle.mon_engine.proofs.NewsLemmas.{More, more_same, more_on, more_weaker, if_some, TellsOfDowntime, news_are}
-use Rattle.mon_engine.proofs.ReachedLemmas.{IsReached, IsPlain, IsForcedTo, downtime_plain, acknowledgement_plain, problem_plain, recovery_plain, custom_plain}
+use Rattle.mon_engine.proofs.ByClockLemmas.{ready_says, clock_cases, clock_more}
+use Rattle.mon_engine.proofs.NewsLemmas.{More, more_same, more_on, more_went, more_weaker, if_some, TellsOfDowntime, news_are}
+use Rattle.mon_engine.proofs.ReachedLemmas.{IsPlain, IsForcedTo, downtime_plain, acknowledgement_plain, problem_plain, recovery_plain, custom_plain}
 
 -- ---- worlds that agree on the switches
 
@@ -107,7 +109,7 @@ noticed_lets inv v u a object change on = noticed_cases (IsOn inv v a) inv u obj
     ))
     (λ spec o known at n e. (
       more_on (IsLet inv v a) v.notices u.notices (n ∷ []) on.0
-          (All-cons (IsLet inv v a) n [] (let_more inv v u a n on.1 (problem_plain inv u object spec o n known at e)) (All-nil (IsLet inv v a))),
+          (All-cons (IsLet inv v a) n [] (let_more inv v u a n on.1 (problem_plain inv u Check object spec o n known at e)) (All-nil (IsLet inv v a))),
       agrees_on v u _ on.1 (changed_agrees u _ object (after_told u.clock) (λ p. refl) refl refl refl),
     ))
 
@@ -189,7 +191,7 @@ forced_sent inv w e a n asked h = record {
 found_agrees : (inv : Configuration) (w : World) (e : Entry) → Agrees w (found inv w e)
 found_agrees inv w e = let leaves = advanced_leaves inv w (moment_of w e) in same_agrees w (found inv w e) (ap (λ (x : World). x.contacts) leaves) (ap (λ (x : World). x.program) leaves) (ap (λ (x : World). x.objects) leaves)
 
-pub all_sent : (each : WhatIsDueHappens) (done : NothingIsLeft) (inv : Configuration) (w : World) (e : Entry) → All (IsSent inv w e (step inv w e).1) (went_out w (step inv w e).0)
+pub all_sent : (each : WhatIsDueHappens) (done : NothingIsLeft) (inv : Configuration) (w : World) (e : Entry) → All (IsSent inv w e (acted inv w e).1) (went_out w (acted inv w e).0)
 all_sent each done inv w e = news_are each done inv w e (λ p n. IsSent inv w e p.1 n)
     (λ p n t. plain_sent inv w e p.1 n (downtime_plain inv w t.word t.moment t.object n t.of_downtime t.is))
     (λ a b asked h. (let lets = act_lets inv (found inv w e) b a h in (more_weaker (IsLet inv (found inv w e) a) (IsSent inv w e Applied) (found inv w e).notices b.notices (λ n k. from_let a n asked k) lets.0, behind b lets.1)))
@@ -206,4 +208,11 @@ all_sent each done inv w e = news_are each done inv w e (λ p n. IsSent inv w e 
     behind b (inr agrees) = inr (λ n t. from_plain b n agrees (downtime_plain inv b t.word t.moment t.object n t.of_downtime t.is))
 
 pub only_who_may_be_told_is_told : (each : WhatIsDueHappens) (done : NothingIsLeft) → OnlyWhoMayBeToldIsTold
-only_who_may_be_told_is_told each done inv w e = All-weaker (IsSent inv w e (step inv w e).1) (λ n. All (MayBeTold inv w e (step inv w e).1 n.subject) n.contacts) (λ n s. s.contacts) (went_out w (step inv w e).0) (all_sent each done inv w e)
+only_who_may_be_told_is_told each done inv w e = All-weaker (IsSent inv w e (acted inv w e).1) (λ n. All (MayBeTold inv w e (acted inv w e).1 n.subject) n.contacts) (λ n s. s.contacts) (went_out w (acted inv w e).0) (all_sent each done inv w e)
+
+pub the_clock_tells_who_may_be_told : TheClockTellsWhoMayBeTold
+the_clock_tells_who_may_be_told inv w = clock_cases inv w (λ (u : World). All Fine (went_out w u)) (more_went Fine w w (more_same Fine w.notices))
+    (λ u tells. more_went Fine w u (clock_more inv w u Fine tells (λ k n ready. (let says = ready_says inv w k n ready in (problem_plain inv w Clock k says.0 says.1 n says.2 says.3 says.5).reached))))
+  where
+    Fine : Notice → Type 0
+    Fine n = All (IsReached inv w.contacts n.subject) n.contacts

@@ -13,7 +13,7 @@ use Rattle.mon_downtime.specs.Records.{depth_of}
 use Rattle.mon_downtime.specs.Clock.{WhatIsDueHappens, NothingIsLeft}
 use Rattle.mon_inventory.specs.declared.records.ObjectSpec.{ObjectSpec}
 use Rattle.mon_inventory.specs.Configuration.{Configuration}
-use Rattle.mon_notify.specs.Letters.{letter_of}
+use Rattle.mon_engine.specs.declared.notices.Occasion.TheVariants.{Check}
 use Rattle.mon_engine.specs.declared.notice.Notice.{Notice}
 use Rattle.mon_engine.specs.declared.notice.Word.{Word}
 use Rattle.mon_engine.specs.declared.notice.Word.TheVariants as words
@@ -21,7 +21,7 @@ use Rattle.mon_engine.specs.declared.outcome.Outcome.{Outcome}
 use Rattle.mon_engine.specs.declared.outcome.Outcome.TheVariants.{Applied}
 use Rattle.mon_engine.specs.Objects.{is_service, custom_number}
 use Rattle.mon_engine.specs.World.{World}
-use Rattle.mon_engine.specs.Notices.{facts, recovery_notice, noticed}
+use Rattle.mon_engine.specs.Notices.{problem_facts, recovery_notice, noticed}
 use Rattle.mon_engine.specs.Results.{with_result, started_all, with_started}
 use Rattle.mon_engine.specs.Acknowledgements.{acknowledge}
 use Rattle.mon_engine.specs.Downtimes.{after_cancel, told_cancelled}
@@ -29,7 +29,7 @@ use Rattle.mon_engine.specs.Effects as acts
 use Rattle.mon_engine.specs.Effects.{Act, act}
 use Rattle.mon_engine.specs.Clock.{due_in, advanced}
 use Rattle.mon_engine.specs.Laws.{moment_of}
-use Rattle.mon_engine.specs.Step.{closed_at, counted, step}
+use Rattle.mon_engine.specs.Step.{closed_at, counted, acted}
 use Rattle.mon_engine.specs.NoticeLaws.{went_out, IsInNoDowntime, SilenceIsKept}
 use Rattle.mon_engine.proofs.ActLemmas.{ok_is, acknowledge_cases, del_downtime_cases, started_cases, noticed_cases, check_result_cases, custom_cases, act_leaves}
 use Rattle.mon_engine.proofs.ClockLemmas.{nothing_is_left}
@@ -122,11 +122,11 @@ noticed_stays inv v u object change before = noticed_cases (Stays inv v) inv u o
     one_still inv v _ words.Recovery object n
     (All-head (IsAs inv words.Recovery object) n [] (subst (IfAny (IsAs inv words.Recovery object)) e (recovery_notice_as inv u object change.hard_recovery spec o (slice_get_within inv.objects object spec known))))
     (in_none inv v u object spec known same open_for.depth open_for.host_depth) same))))
-    (λ spec o known at n e. (let open_for = viable_open (facts inv u object spec o (letter_of (is_service spec) o.status.code)) (problem_viable_as inv u object spec o n e) in
+    (λ spec o known at n e. (let open_for = viable_open (problem_facts inv u Check object spec o) (problem_viable_as inv u Check object spec o n e) in
     let same : u.downtimes ≡ v.downtimes = before.downtimes open_for.depth in
     more_on (IsStill inv v _) v.notices u.notices (n ∷ []) (others_still inv v u _ object before)
     (All-cons (IsStill inv v _) n [] (one_still inv v _ words.Problem object n
-    (All-head (IsAs inv words.Problem object) n [] (subst (IfAny (IsAs inv words.Problem object)) e (problem_notice_as inv u object spec o (slice_get_within inv.objects object spec known))))
+    (All-head (IsAs inv words.Problem object) n [] (subst (IfAny (IsAs inv words.Problem object)) e (problem_notice_as inv u Check object spec o (slice_get_within inv.objects object spec known))))
     (in_none inv v u object spec known same open_for.depth open_for.host_depth) same) (All-nil (IsStill inv v _)))))
 
 cancel_stays : (inv : Configuration) (v : World) (id : ℕ) → Stays inv v (after_cancel inv v id)
@@ -166,7 +166,7 @@ end_none each done inv w b e object same h =
 abbrev InNone : Configuration → World → Entry → World × Outcome → Notice → Type 0
 InNone inv w e p n = IsOfState n.subject.word → IsInNoDowntime inv (advanced inv w (moment_of w e)) n.subject.object × IsInNoDowntime inv p.0 n.subject.object
 
-all_in_none : (each : WhatIsDueHappens) (done : NothingIsLeft) (inv : Configuration) (w : World) (e : Entry) → All (InNone inv w e (step inv w e)) (went_out w (step inv w e).0)
+all_in_none : (each : WhatIsDueHappens) (done : NothingIsLeft) (inv : Configuration) (w : World) (e : Entry) → All (InNone inv w e (acted inv w e)) (went_out w (acted inv w e).0)
 all_in_none each done inv w e = news_are each done inv w e (InNone inv w e)
     (λ p n t of. absurd (not_of_state n.subject.word (downtime_other n.subject.word (downtime_word inv w n t)) of))
     (λ a b asked h. (

@@ -1,6 +1,8 @@
--- Each entry leads from a world that holds together to another.
-use Rattle.std.proofs.Common.{◌≡◌, ℕ, ◌+◌, ◌<◌, ◌≤◌, false, not, eqb, List, [], ◌∷◌, length, Some, Result, Ok, Err, max, refl, ap, sym, ◌∙◌, subst, arith}
+-- Each entry leads from a world that holds together to another: what it does, and the clock's telling after it.
+use Rattle.std.proofs.Common.{◌≡◌, ◌⊎◌, inl, inr, Bool, true, ℕ, ◌+◌, ◌*◌, ◌<◌, ◌≤◌, false, not, eqb, List, [], ◌∷◌, ◌++◌, length, is_some, slice_get, if◌then◌else◌, Some, Result, Ok, Err, max, refl, ap, sym, ◌∙◌, subst, arith}
 use Rattle.std.specs.Prelude.{OnOk}
+use Rattle.std.proofs.lemmas.List.Elements.{All-head}
+use Rattle.std.proofs.lemmas.Option.{same_Some, slice_get_cases, slice_get_within}
 use Rattle.cmd_types.specs.declared.limits.TheConstants.{GREATEST_NUMBER}
 use Rattle.cmd_journal.specs.declared.journal.TheConstants.{GREATEST_LIMIT}
 use Rattle.mon_downtime.specs.declared.event.Event.{Event}
@@ -8,6 +10,9 @@ use Rattle.mon_downtime.specs.Schedule.{fault_of, new_record, new_records}
 use Rattle.mon_inventory.specs.Configuration.{Configuration}
 use Rattle.mon_inventory.specs.Facts.{IsInventory}
 use Rattle.mon_inventory.specs.Lookups.{services_of}
+use Rattle.mon_inventory.specs.declared.records.ObjectSpec.{ObjectSpec}
+use Rattle.mon_engine.specs.declared.notices.Occasion.TheVariants.{Clock}
+use Rattle.mon_engine.specs.declared.notice.Notice.{Notice}
 use Rattle.mon_engine.specs.declared.object.Object.{Object}
 use Rattle.mon_engine.specs.declared.switches.Program.{Program}
 use Rattle.mon_engine.specs.declared.outcome.Reason.{Reason}
@@ -18,34 +23,38 @@ use Rattle.mon_engine.specs.Places.{changed_at}
 use Rattle.mon_engine.specs.World.{World}
 use Rattle.mon_engine.specs.Clock.{due_in, with_event, fired, drained, advanced}
 use Rattle.mon_engine.specs.Switches.{with_accepting, with_notifications, with_switch}
+use Rattle.mon_engine.specs.Objects.{after_told}
+use Rattle.mon_engine.specs.ByClock.{told_by_clock}
+use Rattle.mon_engine.specs.ByClockLaws.{ready_notice, TellsWhatIsReady}
 use Rattle.mon_engine.specs.Stops.{Acts}
-use Rattle.mon_engine.specs.Sound.{AreObjectStates, IsNoticeOf, IsWorldAt, IsWorld, Follows, ever}
+use Rattle.mon_engine.specs.Sound.{IsObjectState, AreObjectStates, IsNoticeOf, IsWorldAt, IsWorld, Follows, ever, raised}
 use Rattle.mon_engine.proofs.ClockLemmas.{drained_keeps}
 use Rattle.mon_engine.proofs.DowntimeLemmas.{length-after_event, after_event_known}
 use Rattle.mon_engine.proofs.ListLemmas.{length-changed_at}
-use Rattle.mon_engine.proofs.NoticeLemmas.{downtime_notice_as, event_notice_as, sound_as}
-use Rattle.mon_engine.proofs.StateLemmas.{set_states, set_each_states}
+use Rattle.mon_engine.proofs.NoticeLemmas.{IfAny, downtime_notice_as, event_notice_as, problem_notice_as, sound_as}
+use Rattle.mon_engine.proofs.StateLemmas.{same_status, set_states, set_each_states}
 use Rattle.mon_engine.specs.Effects as acts
 use Rattle.mon_engine.specs.Effects.{Act, act, IsFit, Stands}
-use Rattle.mon_engine.proofs.PartLemmas.{next_world, with_states, with_others, with_contacts, with_downtimes, with_more_notices}
+use Rattle.mon_engine.proofs.PartLemmas.{later, next_world, with_states, with_others, with_contacts, with_downtimes, with_more_notices}
 use Rattle.mon_engine.proofs.ActLemmas.{ok_is}
 use Rattle.mon_engine.proofs.AcknowledgementLemmas.{commented_world, fewer, del_follows, acknowledge_follows, unacknowledge_follows}
 use Rattle.mon_engine.proofs.ScheduledLemmas.{scheduled_follows, one_record, service_records, cancelled_follows}
 use Rattle.mon_engine.proofs.ResultLemmas.{result_follows}
 use Rattle.mon_engine.proofs.CustomLemmas.{custom_follows}
+use Rattle.mon_engine.proofs.ByClockLemmas.{ready_says, clock_cases, clock_leaves, clock_more}
 
 -- ---- what commands set
 
 abbrev done : World → Result World Reason
 done w = Ok w
 
-set_follows : (inv : Configuration) (w w' : World) (os : List Object) → IsWorld inv w → AreObjectStates (ever w + 1) inv.objects os → done (record w { objects = os }) ≡ Ok w' → Follows inv w w'
+set_follows : (inv : Configuration) (w w' : World) (os : List Object) → IsWorld inv w → AreObjectStates (raised w + 1) inv.objects os → done (record w { objects = os }) ≡ Ok w' → Follows inv w w'
 set_follows inv w w' os h states e =
-    ok_is (Follows inv w) (done (record w { objects = os })) _ w' refl e (record { world = with_states inv (ever w + 1) (ever w + 1) w os (omega arith) (next_world inv w h) states; entries = refl; before = refl })
+    ok_is (Follows inv w) (done (record w { objects = os })) _ w' refl e (record { world = with_states inv (ever w + 1) (raised w + 1) (raised w + 1) w os (next_world inv w h) states; entries = refl; before = refl })
 
 program_follows : (inv : Configuration) (w w' : World) (program : Program) → IsWorld inv w → done (record w { program = program }) ≡ Ok w' → Follows inv w w'
 program_follows inv w w' program h e =
-    ok_is (Follows inv w) (done (record w { program = program })) _ w' refl e (record { world = (let next = next_world inv w h in with_others inv (ever w + 1) w w.clock program w.rejections w.entries next.clock next.limit next); entries = refl; before = refl })
+    ok_is (Follows inv w) (done (record w { program = program })) _ w' refl e (record { world = (let next = next_world inv w h in with_others inv (ever w + 1) (raised w + 1) w w.clock program w.rejections w.entries next.clock next.limit next); entries = refl; before = refl })
 
 -- ---- each act
 
@@ -68,7 +77,7 @@ act_follows inv w w' (acts.DelDowntime kind id) sound h there fit e = cancelled_
 act_follows inv w w' (acts.SetNotifications on) sound h there fit e = program_follows inv w w' (with_notifications on w.program) h e
 act_follows inv w w' (acts.SetContact contact kind on) sound h there fit e =
     ok_is (Follows inv w) _ (record w { contacts = changed_at w.contacts contact (with_switch kind on) }) w' refl e
-    (record { world = with_contacts inv (ever w + 1) w _ (next_world inv w h) (length-changed_at w.contacts contact (with_switch kind on) ∙ h.contacts); entries = refl; before = refl })
+    (record { world = with_contacts inv (ever w + 1) (raised w + 1) w _ (next_world inv w h) (length-changed_at w.contacts contact (with_switch kind on) ∙ h.contacts); entries = refl; before = refl })
 act_follows inv w w' (acts.SendCustom object options) sound h there fit e = ok_is (Follows inv w) _ _ w' refl e (custom_follows inv w object options h)
 act_follows inv w w' acts.Restart sound h there fit e = ok_is (Follows inv w) _ _ w' refl e (fewer inv w (λ c. c.persistent) h)
 
@@ -86,8 +95,8 @@ rejected_same r Memory why old new a e = absurd (cc)
 pub rejected_follows : (inv : Configuration) (w w0 w1 : World) (rs : List Rejection) → IsWorld inv w → w0 ≡ w1 → w1 ≡ w → Follows inv w (record w0 { rejections = rs })
 rejected_follows inv w w0 w1 rs h v same =
     let is : w0 ≡ w = v ∙ same in
-    let next : IsWorldAt inv (ever w + 1) w0 = subst (IsWorldAt inv (ever w + 1)) (sym is) (next_world inv w h) in
-    record { world = with_others inv (ever w + 1) w0 w0.clock w0.program rs w0.entries next.clock next.limit next; entries = ap (λ (x : World). x.entries) is; before = ap (λ (x : World). x.before) is }
+    let next : IsWorldAt inv (ever w + 1) (raised w + 1) w0 = subst (IsWorldAt inv (ever w + 1) (raised w + 1)) (sym is) (next_world inv w h) in
+    record { world = with_others inv (ever w + 1) (raised w + 1) w0 w0.clock w0.program rs w0.entries next.clock next.limit next; entries = ap (λ (x : World). x.entries) is; before = ap (λ (x : World). x.before) is }
 
 max_small : (a b : ℕ) → a ≤ GREATEST_NUMBER → b ≤ GREATEST_NUMBER → max a b ≤ GREATEST_NUMBER
 max_small a b h k = omega arith
@@ -98,29 +107,29 @@ fired_counts : (inv : Configuration) (w : World) (e : Event) (entries before : �
 unfolding fired
 fired_counts inv w e entries before h = h
 
-fired_sound : (inv : Configuration) (w : World) (n t : ℕ) (e : Event) → IsWorldAt inv n w → due_in w t ≡ Some e → IsWorldAt inv n (fired inv w e)
+fired_sound : (inv : Configuration) (w : World) (n m t : ℕ) (e : Event) → IsWorldAt inv n m w → due_in w t ≡ Some e → IsWorldAt inv n m (fired inv w e)
 unfolding fired
-fired_sound inv w n t e h d =
+fired_sound inv w n m t e h d =
     let few = h.downtimes in
     let same = length-after_event w.downtimes e in
-    with_more_notices inv n (with_event w e) _
-    (with_downtimes inv n w _ h (record {
+    with_more_notices inv n m (with_event w e) _
+    (with_downtimes inv n m w _ h (record {
       few = omega arith;
       known = after_event_known (length inv.objects) w.downtimes e h.known;
     }))
     (event_notice_as (IsNoticeOf inv) inv (with_event w e) e.kind e.moment _ (λ word object other. sound_as _ (downtime_notice_as inv (with_event w e) word e.moment object)))
 
-drained_sound : (inv : Configuration) (w : World) (n t : ℕ) → IsWorldAt inv n w → IsWorldAt inv n (drained inv w t)
-drained_sound inv w n t h = drained_keeps inv (IsWorldAt inv n) t (λ v e g d. fired_sound inv v n t e g d) w h
+drained_sound : (inv : Configuration) (w : World) (n m t : ℕ) → IsWorldAt inv n m w → IsWorldAt inv n m (drained inv w t)
+drained_sound inv w n m t h = drained_keeps inv (IsWorldAt inv n m) t (λ v e g d. fired_sound inv v n m t e g d) w h
 
-pub advanced_sound : (inv : Configuration) (w : World) (t n : ℕ) → t ≤ GREATEST_NUMBER → IsWorldAt inv n w → IsWorldAt inv n (advanced inv w t)
+pub advanced_sound : (inv : Configuration) (w : World) (t n m : ℕ) → t ≤ GREATEST_NUMBER → IsWorldAt inv n m w → IsWorldAt inv n m (advanced inv w t)
 unfolding advanced
-advanced_sound inv w t n small h =
-    let g = drained_sound inv w n t h in
-    with_others inv n (drained inv w t) (max w.clock t) (drained inv w t).program (drained inv w t).rejections (drained inv w t).entries (max_small w.clock t h.clock small) g.limit g
+advanced_sound inv w t n m small h =
+    let g = drained_sound inv w n m t h in
+    with_others inv n m (drained inv w t) (max w.clock t) (drained inv w t).program (drained inv w t).rejections (drained inv w t).entries (max_small w.clock t h.clock small) g.limit g
 
-counted_sound : (inv : Configuration) (b : World) → b.entries + 1 ≤ GREATEST_LIMIT → IsWorldAt inv (ever b + 1) b → IsWorldAt inv (ever b + 1) (record b { entries = b.entries + 1 })
-counted_sound inv b few h = with_others inv (ever b + 1) b b.clock b.program b.rejections (b.entries + 1) h.clock few h
+counted_sound : (inv : Configuration) (b : World) (n m : ℕ) → b.entries + 1 ≤ GREATEST_LIMIT → IsWorldAt inv n m b → IsWorldAt inv n m (record b { entries = b.entries + 1 })
+counted_sound inv b n m few h = with_others inv n m b b.clock b.program b.rejections (b.entries + 1) h.clock few h
 
 -- so many entries were counted, and so many before
 abbrev IsCountedAt : (entries before : ℕ) → World → Type 0
@@ -140,24 +149,66 @@ advanced_ever inv w a t first =
     let before : a.before ≡ w.before = ap (λ (x : World). x.before) first ∙ counts.1 in
     omega (arith, entries, before)
 
--- one entry: a is the world that it finds, b what its effect leaves, d what stands at its end
-pub stepped : (inv : Configuration) (w a b c d : World) (t : ℕ) → IsWorld inv w → w.entries < GREATEST_LIMIT → t ≤ GREATEST_NUMBER
-    → a ≡ advanced inv w t → Follows inv a b → c ≡ b → d ≡ advanced inv (record c { entries = c.entries + 1 }) t → IsWorld inv d × (d.entries ≡ w.entries + 1)
-stepped inv w a b c d t h room small first f same last =
+-- what an entry does: a is the world that it finds, b what its effect leaves, d what stands at its end
+pub acted_sound : (inv : Configuration) (w a b c d : World) (t : ℕ) → IsWorld inv w → w.entries < GREATEST_LIMIT → t ≤ GREATEST_NUMBER
+    → a ≡ advanced inv w t → Follows inv a b → c ≡ b → d ≡ advanced inv (record c { entries = c.entries + 1 }) t → IsWorldAt inv (ever w + 1) (raised w + 1) d × (d.entries ≡ w.entries + 1) × (d.before ≡ w.before)
+acted_sound inv w a b c d t h room small first f same last =
     let found = advanced_counts inv w t in
     let count : a.entries ≡ w.entries = ap (λ (x : World). x.entries) first ∙ found.0 in
-    let kept : b.entries ≡ a.entries = f.entries in
-    let kept_before : b.before ≡ a.before = f.before in
-    let many : c.entries ≡ b.entries = ap (λ (x : World). x.entries) same in
-    let at_b : IsWorldAt inv (ever b + 1) b = subst (λ (n : ℕ). IsWorldAt inv n b) (omega (arith, kept, kept_before)) f.world in
-    let at_c : IsWorldAt inv (ever c + 1) c = subst (λ (x : World). IsWorldAt inv (ever x + 1) x) (sym same) at_b in
-    let after = counted_sound inv c (omega arith) at_c in
+    let kept : c.entries ≡ a.entries = ap (λ (x : World). x.entries) same ∙ f.entries in
     let counts = advanced_counts inv (record c { entries = c.entries + 1 }) t in
-    let grown : d.entries ≡ c.entries + 1 = ap (λ (x : World). x.entries) last ∙ counts.0 in
-    let before : d.before ≡ c.before = ap (λ (x : World). x.before) last ∙ counts.1 in
-    let sound : IsWorldAt inv (ever c + 1) d = subst (IsWorldAt inv (ever c + 1)) (sym last) (advanced_sound inv (record c { entries = c.entries + 1 }) t (ever c + 1) small after) in
-    (subst (λ (n : ℕ). IsWorldAt inv n d) (omega (arith, grown, before)) sound, omega arith)
+    let entries : d.entries ≡ c.entries + 1 = ap (λ (x : World). x.entries) last ∙ counts.0 in
+    let before : d.before ≡ w.before = ap (λ (x : World). x.before) last ∙ counts.1 ∙ ap (λ (x : World). x.before) same ∙ f.before ∙ ap (λ (x : World). x.before) first ∙ found.1 in
+    let at_c : IsWorldAt inv (ever w + 1) (raised w + 1) c = subst (IsWorldAt inv (ever w + 1) (raised w + 1)) (sym same) (subst (λ (n : ℕ). IsWorldAt inv (n + 1) (2 * n + 1) b) (advanced_ever inv w a t first) f.world) in
+    let after = counted_sound inv c (ever w + 1) (raised w + 1) (omega (arith, room, kept, count)) at_c in
+    (subst (IsWorldAt inv (ever w + 1) (raised w + 1)) (sym last) (advanced_sound inv (record c { entries = c.entries + 1 }) t (ever w + 1) (raised w + 1) small after), omega (arith, entries, kept, count), before)
+
+-- one object more has its number raised by one at most where the clock tells
+told_states : (inv : Configuration) (n : ℕ) (w v : World) → TellsWhatIsReady inv w v → AreObjectStates n inv.objects w.objects → AreObjectStates (n + 1) inv.objects v.objects
+told_states inv n w v h states = record {
+  as_many = h.as_many ∙ states.as_many;
+  each = λ k spec o known at. (let was = before k o at in state spec o was.0 (states.each k spec was.0 known was.1) was.2);
+  numbers = λ k o at. (let was = before k o at in let few = states.numbers k was.0 was.1 in raise o was.0 few was.2);
+}
+  where
+    -- an object is as it was, or told
+    before : (k : ℕ) (o : Object) → slice_get v.objects k ≡ Some o → (p : Object) × (slice_get w.objects k ≡ Some p) × ((o ≡ p) ⊎ (o ≡ after_told w.clock p))
+    before k o at = elim (slice_get_cases w.objects k).1 [
+      | inl there ↦ (there.0, there.2, by (is_some (ready_notice inv w k)) there.0 (h.each k there.0 there.2))
+      | inr past ↦ absurd (let high = past.0 in let low = slice_get_within v.objects k o at in let long = h.as_many in omega (arith, high, low, long))
+    ]
+      where
+        by : (b : Bool) (p : Object) → slice_get v.objects k ≡ Some (if b then after_told w.clock p else p) → (o ≡ p) ⊎ (o ≡ after_told w.clock p)
+        by true p now = inr (same_Some o (after_told w.clock p) (sym at ∙ now))
+        by false p now = inl (same_Some o p (sym at ∙ now))
+
+    state : (spec : ObjectSpec) (o p : Object) → IsObjectState spec p → (o ≡ p) ⊎ (o ≡ after_told w.clock p) → IsObjectState spec o
+    state spec o p s (inl same) = subst (IsObjectState spec) (sym same) s
+    state spec o p s (inr told) = subst (IsObjectState spec) (sym told) (same_status spec p (after_told w.clock p) refl refl s)
+
+    raise : (o p : Object) → p.number ≤ GREATEST_NUMBER + n → (o ≡ p) ⊎ (o ≡ after_told w.clock p) → o.number ≤ GREATEST_NUMBER + (n + 1)
+    raise o p few (inl same) = subst (λ (x : Object). x.number ≤ GREATEST_NUMBER + (n + 1)) (sym same) (omega (arith, few))
+    raise o p few (inr told) = subst (λ (x : Object). x.number ≤ GREATEST_NUMBER + (n + 1)) (sym told) (omega (arith, few))
+
+ready_sound : (inv : Configuration) (w : World) (k : ℕ) (n : Notice) → ready_notice inv w k ≡ Some n → IsNoticeOf inv n
+ready_sound inv w k n e =
+    let ready = ready_says inv w k n e in
+    All-head (IsNoticeOf inv) n [] (subst (IfAny (IsNoticeOf inv)) ready.5 (sound_as _ (problem_notice_as inv w Clock k ready.0 ready.1 (slice_get_within inv.objects k ready.0 ready.2))))
+
+pub clock_sound : (inv : Configuration) (n m : ℕ) (w : World) → IsWorldAt inv n m w → IsWorldAt inv n (m + 1) (told_by_clock inv w)
+clock_sound inv n m w h = clock_cases inv w (IsWorldAt inv n (m + 1)) (later inv n m n (m + 1) w (omega arith) (omega arith) h)
+    (λ v tells. (let more = clock_more inv w v (IsNoticeOf inv) tells (ready_sound inv w) in
+    subst (IsWorldAt inv n (m + 1)) (sym (tells.same ∙ ap (λ (ns : List Notice). record w { objects = v.objects; notices = ns }) (ap (λ (x : World). x.notices) (sym tells.same) ∙ more.1)))
+    (with_states inv n m (m + 1) (record w { notices = w.notices ++ more.0 }) v.objects (with_more_notices inv n m w more.0 h more.2) (told_states inv m w v tells h.states))))
+
+-- one entry: v is what it does to w, and u stands once the clock has told
+pub stepped : (inv : Configuration) (w v u : World) → IsWorldAt inv (ever w + 1) (raised w + 1) v × (v.entries ≡ w.entries + 1) × (v.before ≡ w.before) → u ≡ told_by_clock inv v → IsWorld inv u × (u.entries ≡ w.entries + 1)
+stepped inv w v u done is =
+    let entries : u.entries ≡ w.entries + 1 = ap (λ (x : World). x.entries) (is ∙ clock_leaves inv v) ∙ done.1 in
+    let before : u.before ≡ w.before = ap (λ (x : World). x.before) (is ∙ clock_leaves inv v) ∙ done.2 in
+    let sound : IsWorldAt inv (ever w + 1) (raised w + 1 + 1) u = subst (IsWorldAt inv (ever w + 1) (raised w + 1 + 1)) (sym is) (clock_sound inv (ever w + 1) (raised w + 1) v done.0) in
+    (later inv (ever w + 1) (raised w + 1 + 1) (ever u) (raised u) u (omega (arith, entries, before)) (omega (arith, entries, before)) sound, entries)
 
 pub found_sound : (inv : Configuration) (w a : World) (t : ℕ) → IsWorld inv w → t ≤ GREATEST_NUMBER → a ≡ advanced inv w t → IsWorld inv a
 found_sound inv w a t h small first =
-    subst (λ (n : ℕ). IsWorldAt inv n a) (sym (advanced_ever inv w a t first)) (subst (IsWorldAt inv (ever w)) (sym first) (advanced_sound inv w t (ever w) small h))
+    subst (λ (n : ℕ). IsWorldAt inv n (2 * n) a) (sym (advanced_ever inv w a t first)) (subst (IsWorldAt inv (ever w) (raised w)) (sym first) (advanced_sound inv w t (ever w) (raised w) small h))

@@ -13,14 +13,15 @@ use Rattle.mon_downtime.specs.Cancel.{depends, cancelled}
 use Rattle.mon_inventory.specs.Configuration.{Configuration}
 use Rattle.mon_engine.specs.World.{World}
 use Rattle.mon_engine.specs.Effects.{Act}
-use Rattle.mon_engine.specs.Step.{counted, step, meaning}
+use Rattle.mon_engine.specs.Step.{counted, acted, step, meaning}
 use Rattle.mon_engine.specs.Laws.{moment_of, AppliesOne}
 use Rattle.mon_engine.specs.DowntimeLaws.{KeepsItsTime, HasBegun, TimeIsOver, CancelsDowntime, IsStillThere, DowntimeStands, DowntimesStand}
+use Rattle.mon_engine.proofs.ByClockLemmas.{clock_leaves}
 use Rattle.mon_engine.proofs.EntryLemmas.{found, found_clock, entry_cases}
 use Rattle.mon_engine.proofs.FoundLemmas.{known_downtime}
 use Rattle.mon_engine.proofs.MoveLemmas.{Moves, act_moves, IsEntered, AreEntered}
 use Rattle.mon_engine.proofs.StageLemmas.{IsStage, Goes, goes_on, advanced_goes, more_go, OutlastsFrom, started_goes, cancel_goes}
-use Rattle.mon_engine.proofs.TimeLemmas.{IsOnTime, step_on_time, step_clock, keeps_time, meaning_on_time}
+use Rattle.mon_engine.proofs.TimeLemmas.{IsOnTime, acted_on_time, acted_clock, keeps_time, meaning_on_time}
 
 -- ---- an act
 
@@ -73,7 +74,9 @@ there_or C d t ds keep g = by_fate g.at.fate refl g.stage kept
     by_fate Over e s k = inr s
 
 downtime_stands : DueIsFirst → StartsAreInTime → WhatIsNotDueIsToCome → records.NothingIsLeft → (inv : Configuration) (w : World) (e : Entry) (d : Downtime) → IsOnTime w → record_of w.downtimes d.id ≡ Some d → is_over d.fate ≡ false → DowntimeStands inv w e d
-downtime_stands first in_time to_come done inv w e d on_time there alive = entry_cases inv w e
+unfolding step
+downtime_stands first in_time to_come done inv w e d on_time there alive = subst (λ (ds : List Downtime). IsStillThere ds d (moment_of w e) ⊎ (TimeIsOver d (moment_of w e) d.fate ⊎ AppliesOne inv e (acted inv w e).1 (CancelsDowntime inv (found inv w e).downtimes d)))
+    (sym (ap (λ (x : World). x.downtimes) (clock_leaves inv (acted inv w e).0))) (entry_cases inv w e
     (λ p. AllKeepTime p.0.downtimes (moment_of w e) → IsStillThere p.0.downtimes d (moment_of w e) ⊎ (TimeIsOver d (moment_of w e) d.fate ⊎ AppliesOne inv e p.1 (CancelsDowntime inv (found inv w e).downtimes d)))
     (λ why keep. elim (there_or ⊥ d (moment_of w e) _ keep (advanced_goes first inv d (moment_of w e) ⊥ _ at_found)) [
       | inl there ↦ inl there
@@ -90,13 +93,13 @@ downtime_stands first in_time to_come done inv w e d on_time there alive = entry
         | inr cancels ↦ inr (inr (record { applied = refl; does = a; asked_for = n; among = cancels }))
       ]
     ]))
-    kept
+    kept)
   where
     entered : AreEntered w.clock w.downtimes
     entered = on_time.entered
 
-    kept : AllKeepTime (step inv w e).0.downtimes (moment_of w e)
-    kept x at = (let after = step_on_time in_time done inv w e on_time in subst (λ (c : ℕ). KeepsItsTime (step inv w e).0.downtimes x c x.fate) (step_clock inv w e) (keeps_time to_come (step inv w e).0 x after at))
+    kept : AllKeepTime (acted inv w e).0.downtimes (moment_of w e)
+    kept x at = (let after = acted_on_time in_time done inv w e on_time in subst (λ (c : ℕ). KeepsItsTime (acted inv w e).0.downtimes x c x.fate) (acted_clock inv w e) (keeps_time to_come (acted inv w e).0 x after at))
 
     at_first : Goes d (moment_of w e) ⊥ w.downtimes
     at_first = record { ids = entered.ids; at = d; there = there; same = refl; stage = first_stage d (moment_of w e) d.fate refl alive }

@@ -25,12 +25,13 @@ use Rattle.mon_engine.specs.Results.{with_result, with_started}
 use Rattle.mon_engine.specs.Effects as acts
 use Rattle.mon_engine.specs.Effects.{Act, act}
 use Rattle.mon_engine.specs.Clock.{due_in, fired, advanced}
-use Rattle.mon_engine.specs.Step.{counted, step, meaning_from, meaning}
-use Rattle.mon_engine.specs.Laws.{moment_of}
+use Rattle.mon_engine.specs.Step.{counted, acted, step, meaning_from, meaning}
+use Rattle.mon_engine.specs.Laws.{moment_of, NothingIsDue}
 use Rattle.mon_engine.specs.DowntimeLaws.{KeepsItsTime, DowntimesKeepTheirTime}
 use Rattle.mon_engine.proofs.ActLemmas.{started_leaves, noticed_leaves, check_result_cases, act_leaves}
 use Rattle.mon_engine.proofs.ClockLemmas.{drained_keeps, nothing_is_left}
 use Rattle.mon_engine.proofs.DowntimeLemmas.{OnlyFates, changed_only, started_only, cancelled_only, waits_as}
+use Rattle.mon_engine.proofs.ByClockLemmas.{clock_leaves}
 use Rattle.mon_engine.proofs.EntryLemmas.{found, found_clock, advanced_leaves, entry_cases}
 use Rattle.mon_engine.proofs.FoundLemmas.{known_downtime}
 use Rattle.mon_engine.proofs.IdLemmas.{AreIds, each_found, mapped_ids, more_ids, mapped_record, more_record}
@@ -240,8 +241,8 @@ closes in_time done inv u t clock n h = record {
     at_t : max u.clock t ≡ t
     at_t = omega arith
 
-pub step_on_time : StartsAreInTime → records.NothingIsLeft → (inv : Configuration) (w : World) (e : Entry) → IsOnTime w → IsOnTime (step inv w e).0
-step_on_time in_time done inv w e h = entry_cases inv w e (λ p. IsOnTime p.0)
+pub acted_on_time : StartsAreInTime → records.NothingIsLeft → (inv : Configuration) (w : World) (e : Entry) → IsOnTime w → IsOnTime (acted inv w e).0
+acted_on_time in_time done inv w e h = entry_cases inv w e (λ p. IsOnTime p.0)
     (λ why. closes in_time done inv _ (moment_of w e) (found_clock inv w e) (at_moment AreEntered (found inv w e).downtimes found_entered) (at_moment AreBegun (found inv w e).downtimes found_begun))
     (λ a b n k. (let moves = act_moves inv (found inv w e) b a k in
     closes in_time done inv (counted b) (moment_of w e) (act_clock inv (found inv w e) b a k ∙ found_clock inv w e)
@@ -256,13 +257,20 @@ step_on_time in_time done inv w e h = entry_cases inv w e (λ p. IsOnTime p.0)
     at_moment : (P : ℕ → List Downtime → Type 0) (ds : List Downtime) → P (found inv w e).clock ds → P (moment_of w e) ds
     at_moment P ds k = subst (λ (c : ℕ). P c ds) (found_clock inv w e) k
 
-pub step_clock : (inv : Configuration) (w : World) (e : Entry) → (step inv w e).0.clock ≡ moment_of w e
-step_clock inv w e = entry_cases inv w e (λ p. p.0.clock ≡ moment_of w e)
+pub acted_clock : (inv : Configuration) (w : World) (e : Entry) → (acted inv w e).0.clock ≡ moment_of w e
+acted_clock inv w e = entry_cases inv w e (λ p. p.0.clock ≡ moment_of w e)
     (λ why. closes_clock _ (found_clock inv w e))
     (λ a b n k. closes_clock (counted b) (act_clock inv (found inv w e) b a k ∙ found_clock inv w e))
   where
     closes_clock : (u : World) → u.clock ≡ moment_of w e → (advanced inv u (moment_of w e)).clock ≡ moment_of w e
     closes_clock u clock = ap (λ (x : World). x.clock) (advanced_leaves inv u (moment_of w e)) ∙ omega arith
+
+-- neither the clock nor the downtimes change where the clock tells
+pub step_on_time : StartsAreInTime → records.NothingIsLeft → (inv : Configuration) (w : World) (e : Entry) → IsOnTime w → IsOnTime (step inv w e).0
+unfolding step
+step_on_time in_time done inv w e h =
+    let acts = acted_on_time in_time done inv w e h in
+    subst IsOnTime (sym (clock_leaves inv (acted inv w e).0)) (record { entered = acts.entered; begun = acts.begun; idle = acts.idle })
 
 meant_on_time : StartsAreInTime → records.NothingIsLeft → (inv : Configuration) (w : World) (journal : List Entry) → IsOnTime w → IsOnTime (meaning_from inv w journal)
 unfolding meaning_from
@@ -325,3 +333,15 @@ keeps_time to_come w d h there = by_fate d.fate refl (h.begun.each d.id d there)
 
 pub downtimes_keep_their_time : StartsAreInTime → WhatIsNotDueIsToCome → records.NothingIsLeft → DowntimesKeepTheirTime
 downtimes_keep_their_time in_time to_come done inv journal d there = keeps_time to_come (meaning inv journal) d (meaning_on_time in_time done inv journal) there
+
+-- ---- after an entry
+
+pub nothing_is_due : (done : records.NothingIsLeft) → NothingIsDue
+unfolding step
+nothing_is_due done inv w e = ap (λ (x : World). due_in x x.clock) (clock_leaves inv v) ∙ ap (due_in v) (acted_clock inv w e) ∙ left
+  where
+    v : World
+    v = (acted inv w e).0
+
+    left : due_in v (moment_of w e) ≡ None
+    left = entry_cases inv w e (λ p. due_in p.0 (moment_of w e) ≡ None) (λ why. nothing_is_left done inv _ (moment_of w e)) (λ a b n h. nothing_is_left done inv (counted b) (moment_of w e))

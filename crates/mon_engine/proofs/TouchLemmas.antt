@@ -28,7 +28,7 @@ use Rattle.mon_engine.specs.Results.{with_result, with_started, after_taken}
 use Rattle.mon_engine.specs.Effects as acts
 use Rattle.mon_engine.specs.Effects.{Act, act, named}
 use Rattle.mon_engine.specs.Clock.{fired, drained, advanced}
-use Rattle.mon_engine.specs.Step.{act_on, settled, effect, counted, step}
+use Rattle.mon_engine.specs.Step.{act_on, settled, effect, counted, acted}
 use Rattle.mon_engine.specs.Laws.{moment_of, AppliesOne}
 use Rattle.mon_engine.specs.TouchLaws.{MayChangeObject, OtherObjectsStay, FallsDue, MayChangeDowntime, OtherDowntimesStay, Schedules, NewDowntimesAreAsked}
 use Rattle.mon_engine.proofs.ActLemmas.{ok_is, acknowledge_cases, unacknowledge_cases, started_leaves, noticed_cases, check_result_cases, custom_cases, act_leaves}
@@ -173,7 +173,7 @@ effect_stays inv v e d there = by_named (named inv e.stamped.command) refl
     by_named (Ok a) n = by_act a n (act inv v a) refl
 
 pub other_downtimes_stay : OtherDowntimesStay
-unfolding step
+unfolding acted
 other_downtimes_stay inv w e d there = elim (time_stays inv w (moment_of w e) d there) [
   | inl found_there ↦ elim (effect_stays inv (found inv w e) e d found_there) [
     | inl left ↦ elim (time_stays inv (counted (effect inv (found inv w e) e).0) (moment_of w e) d left) [
@@ -253,7 +253,7 @@ effect_new inv v e id none = by_named (named inv e.stamped.command) refl
     by_named (Ok a) n = by_act a n (act inv v a) refl
 
 pub new_downtimes_are_asked : NewDowntimesAreAsked
-unfolding step
+unfolding acted
 new_downtimes_are_asked inv w e d none there = elim (effect_new inv (found inv w e) e d.id (time_none inv w (moment_of w e) d.id none)) [
   | inl still ↦ absurd (let no = time_none inv (counted (effect inv (found inv w e) e).0) (moment_of w e) d.id still in cc)
   | inr new ↦ (

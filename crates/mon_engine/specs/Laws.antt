@@ -7,10 +7,11 @@ use Rattle.mon_notes.specs.declared.comment.Comment.{Comment}
 use Rattle.mon_notes.specs.Comments.{comment_of}
 use Rattle.mon_downtime.specs.Records.{depth_of}
 use Rattle.mon_notify.specs.Letters.{letter_of, has_letter}
-use Rattle.mon_notify.specs.Viable.{is_delayed}
+use Rattle.mon_notify.specs.Viable.{is_delayed, have_gone_by}
 use Rattle.mon_inventory.specs.declared.records.ObjectSpec.{ObjectSpec}
-use Rattle.mon_inventory.specs.Configuration.{Configuration}
+use Rattle.mon_inventory.specs.Configuration.{Configuration, directives_at}
 use Rattle.mon_engine.specs.declared.notice.Notice.{Notice}
+use Rattle.mon_engine.specs.declared.notice.Subject.{Subject}
 use Rattle.mon_engine.specs.declared.notice.Word.TheVariants.{Problem}
 use Rattle.mon_engine.specs.declared.object.Acknowledgement.{Acknowledgement}
 use Rattle.mon_engine.specs.declared.object.Acknowledgement.TheVariants.{Unacknowledged, Normal}
@@ -18,13 +19,13 @@ use Rattle.mon_engine.specs.declared.object.Object.{Object}
 use Rattle.mon_engine.specs.declared.outcome.Outcome.{Outcome}
 use Rattle.mon_engine.specs.declared.outcome.Outcome.TheVariants.{Applied, Rejected}
 use Rattle.mon_engine.specs.declared.outcome.Reason.{Reason}
-use Rattle.mon_engine.specs.Objects.{is_service, host_is_up, is_acknowledged, acknowledgement_of}
+use Rattle.mon_engine.specs.Objects.{is_service, host_is_up, back_since, is_acknowledged, acknowledgement_of}
 use Rattle.mon_engine.specs.World.{World}
 use Rattle.mon_engine.specs.Acknowledgements.{has_comment_by}
 use Rattle.mon_engine.specs.Effects as acts
 use Rattle.mon_engine.specs.Effects.{Act, named}
-use Rattle.mon_engine.specs.Clock.{advanced}
-use Rattle.mon_engine.specs.Step.{step}
+use Rattle.mon_engine.specs.Clock.{due_in, advanced}
+use Rattle.mon_engine.specs.Step.{acted, step}
 
 -- the moment of an entry: its time, or the clock where that is greater
 abbrev pub moment_of : World → Entry → ℕ
@@ -64,16 +65,16 @@ MakesOfAcknowledgement object o a _ = ⊥
 -- these acts
 abbrev pub AcknowledgementsStand : Type 0
 AcknowledgementsStand = (inv : Configuration) (w : World) (e : Entry) (object : ℕ) (o : Object) → slice_get w.objects object ≡ Some o →
-    (acknowledgement_at (step inv w e).0 object ≡ o.acknowledgement)
-    ⊎ AppliesOne inv e (step inv w e).1 (MakesOfAcknowledgement object o (acknowledgement_at (step inv w e).0 object))
+    (acknowledgement_at (acted inv w e).0 object ≡ o.acknowledgement)
+    ⊎ AppliesOne inv e (acted inv w e).1 (MakesOfAcknowledgement object o (acknowledgement_at (acted inv w e).0 object))
 
 -- ---- a rejected entry changes nothing
 
 -- the clock moves on, the events that are due by then happen with their notices, the rejection is listed, and the entry
 -- counts; nothing else changes
 abbrev pub RejectedEntriesChangeNothing : Type 0
-RejectedEntriesChangeNothing = (inv : Configuration) (w : World) (e : Entry) (why : Reason) → (step inv w e).1 ≡ Rejected why →
-    (step inv w e).0 ≡ record w {
+RejectedEntriesChangeNothing = (inv : Configuration) (w : World) (e : Entry) (why : Reason) → (acted inv w e).1 ≡ Rejected why →
+    (acted inv w e).0 ≡ record w {
       clock = moment_of w e;
       downtimes = (advanced inv w (moment_of w e)).downtimes;
       notices = (advanced inv w (moment_of w e)).notices;
@@ -98,25 +99,33 @@ DoubledCommentsShow = (inv : Configuration) (w : World) (first second : Entry) (
     ((step inv (step inv w first).0 second).1 ≡ Applied)
     × ((step inv (step inv w first).0 second).0.notes ≡ record { comments = w.notes.comments ++ c ∷ d ∷ []; last_id = w.notes.last_id + 2 })
 
+-- ---- the clock
+
+-- after an entry nothing is due at the clock
+abbrev pub NothingIsDue : Type 0
+NothingIsDue = (inv : Configuration) (w : World) (e : Entry) → due_in (step inv w e).0 (step inv w e).0.clock ≡ None
+
 -- ---- a problem is not notified while its notices are suppressed
 
--- nothing suppresses the notices of the object's problem: it is hard and not acknowledged, its options have the
--- letter of its state, no delay is to come, the host of a service is UP, neither the object nor that host is in a
--- downtime, and both switches are on
-pub record IsUnsuppressed (inv : Configuration) (w : World) (object : ℕ) : Type 0 where
+-- nothing suppresses this notice of the object's problem: it is hard and not acknowledged, its options have the letter of
+-- its state, no delay is to come, the first notification delay is over, the host of a service is UP, and came back long
+-- enough ago for a first notice, neither the object nor that host is in a downtime, and both switches are on
+pub record IsUnsuppressed (inv : Configuration) (w : World) (s : Subject) : Type 0 where
   pub spec : ObjectSpec
   pub of : Object
-  pub known : slice_get inv.objects object ≡ Some spec
-  pub there : slice_get w.objects object ≡ Some of
+  pub known : slice_get inv.objects s.object ≡ Some spec
+  pub there : slice_get w.objects s.object ≡ Some of
   pub unacknowledged : is_acknowledged of.acknowledgement ≡ false
-  pub depth : depth_of w.downtimes object ≡ 0
+  pub depth : depth_of w.downtimes s.object ≡ 0
   pub host_depth : is_service spec ≡ true → depth_of w.downtimes spec.host_object ≡ 0
   pub object_on : of.notify ≡ true
   pub program_on : w.program.notifications ≡ true
   pub hard : of.status.hard ≡ true
   pub letter_on : has_letter spec.letters (letter_of (is_service spec) of.status.code) ≡ true
   pub not_delayed : is_delayed of.not_before w.clock ≡ false
+  pub old : have_gone_by of.moments.since (directives_at inv (Some s.object)).first_notification_delay w.clock ≡ true
   pub host_up : is_service spec ≡ true → host_is_up w.objects spec ≡ true
+  pub settled : s.number ≡ 1 → is_service spec ≡ true → have_gone_by (back_since (slice_get w.objects spec.host_object)) inv.settle w.clock ≡ true
 
 -- The notices so far stay, and each PROBLEM among the new ones is of an object whose notices nothing suppresses
 -- afterwards. An acknowledgement that the result ended does not suppress them; a downtime that the result started
@@ -124,7 +133,7 @@ pub record IsUnsuppressed (inv : Configuration) (w : World) (object : ℕ) : Typ
 pub record TellsOfProblems (inv : Configuration) (w w' : World) : Type 0 where
   pub new : List Notice
   pub behind : w'.notices ≡ w.notices ++ new
-  pub problems : All (λ n. n.subject.word ≡ Problem → IsUnsuppressed inv w' n.subject.object) new
+  pub problems : All (λ n. n.subject.word ≡ Problem → IsUnsuppressed inv w' n.subject) new
 
 -- an entry sends a PROBLEM only of an object whose notices nothing suppresses
 abbrev pub SuppressedProblemsAreNotTold : Type 0
@@ -153,5 +162,5 @@ RemovesComment inv w w' c _ = ⊥
 -- acts
 abbrev pub CommentsStand : Type 0
 CommentsStand = (inv : Configuration) (w : World) (e : Entry) (c : Comment) → Contains w.notes.comments c →
-    Contains (step inv w e).0.notes.comments c
-    ⊎ AppliesOne inv e (step inv w e).1 (RemovesComment inv w (step inv w e).0 c)
+    Contains (acted inv w e).0.notes.comments c
+    ⊎ AppliesOne inv e (acted inv w e).1 (RemovesComment inv w (acted inv w e).0 c)

@@ -5,6 +5,7 @@ pub mod Switches
 pub mod World
 pub mod Names
 pub mod Notices
+pub mod ByClock
 pub mod Results
 pub mod Acknowledgements
 pub mod Downtimes
@@ -26,5 +27,7 @@ pub mod Laws
 pub mod Withheld
 pub mod Status
 pub mod NoticeLaws
+pub mod ByClockLaws
+pub mod Wakes
 pub mod DowntimeLaws
 pub mod TouchLaws

@@ -1,11 +1,12 @@
 -- Who is notified with an entry, and when nobody is: laws over the definitions, for any world that an entry finds.
-use Rattle.std.specs.Prelude.{◌≡◌, ◌≢◌, ◌⊎◌, ℕ, ◌+◌, ◌<◌, ◌≤◌, Bool, true, false, if◌then◌else◌, List, [], ◌∷◌, length, drop, Option, Some, None, Ok, slice_get, All, Contains, count_by}
+use Rattle.std.specs.Prelude.{◌==◌, ◌&&◌, ◌≡◌, ◌≢◌, ◌⊎◌, ℕ, ◌+◌, ◌<◌, ◌≤◌, Bool, true, false, if◌then◌else◌, List, [], ◌∷◌, ◌++◌, length, drop, Option, Some, None, Ok, slice_get, All, Contains, count_by}
 use Rattle.cmd_types.specs.declared.entry.Entry.{Entry}
 use Rattle.mon_downtime.specs.Records.{depth_of}
 use Rattle.mon_downtime.specs.Problem.{all_waiting}
 use Rattle.mon_inventory.specs.declared.records.ContactSpec.{ContactSpec}
 use Rattle.mon_inventory.specs.declared.records.ObjectSpec.{ObjectSpec}
-use Rattle.mon_inventory.specs.Configuration.{Configuration}
+use Rattle.mon_inventory.specs.Configuration.{Configuration, directives_at}
+use Rattle.mon_notify.specs.declared.contacts.ContactSwitch.{ContactSwitch}
 use Rattle.mon_notify.specs.declared.letter.Letter.{Letter}
 use Rattle.mon_notify.specs.declared.letter.Letter.TheVariants as letter
 use Rattle.mon_notify.specs.Custom.{all_escalations, is_forced, is_on_at}
@@ -14,7 +15,8 @@ use Rattle.mon_notify.specs.Interval.{interval_in_force}
 use Rattle.mon_notify.specs.Letters.{letter_of, has_letter}
 use Rattle.mon_notify.specs.Objects.{is_service, own_contacts}
 use Rattle.mon_notify.specs.Recipients.{recipients}
-use Rattle.mon_notify.specs.Viable.{is_delayed, is_of_code, is_over}
+use Rattle.mon_notify.specs.Viable.{is_delayed, is_of_code, is_over, have_gone_by}
+use Rattle.mon_engine.specs.declared.notices.Occasion.TheVariants.{Check}
 use Rattle.mon_engine.specs.declared.notice.Notice.{Notice}
 use Rattle.mon_engine.specs.declared.notice.Subject.{Subject}
 use Rattle.mon_engine.specs.declared.notice.Word.{Word}
@@ -23,14 +25,15 @@ use Rattle.mon_engine.specs.declared.object.Object.{Object}
 use Rattle.mon_engine.specs.declared.objects.Setting.TheVariants as settings
 use Rattle.mon_engine.specs.declared.outcome.Outcome.{Outcome}
 use Rattle.mon_engine.specs.declared.outcome.Outcome.TheVariants.{Applied}
-use Rattle.mon_engine.specs.Objects.{is_acknowledged, host_is_up}
+use Rattle.mon_engine.specs.Objects.{is_acknowledged, host_is_up, back_since}
 use Rattle.mon_engine.specs.World.{World}
 use Rattle.mon_engine.specs.Clock.{advanced}
 use Rattle.mon_engine.specs.Effects as acts
 use Rattle.mon_engine.specs.Effects.{Act, named}
 use Rattle.mon_engine.specs.Laws.{moment_of, AppliesOne}
 use Rattle.mon_engine.specs.Results.{with_result, with_started}
-use Rattle.mon_engine.specs.Step.{step, meaning_from, meaning}
+use Rattle.mon_engine.specs.ByClock.{told_by_clock}
+use Rattle.mon_engine.specs.Step.{acted, step, meaning_from, meaning}
 use Rattle.mon_engine.specs.declared.withheld.Withheld.{Withheld}
 use Rattle.mon_engine.specs.Withheld.{withheld, next_problem}
 
@@ -72,6 +75,12 @@ abbrev pub has_letter_at : (service : Bool) → Letter → Option ContactSpec �
 has_letter_at service l None = false
 has_letter_at service l (Some contact) = has_letter (if service then contact.service_letters else contact.host_letters) l
 
+-- the contact is reached by this, with these switches of the contacts
+pub record IsReached (inv : Configuration) (switches : List ContactSwitch) (s : Subject) (c : ℕ) : Type 0 where
+  pub contact : IsContactOf inv s.object c
+  pub switch_on : is_on_at (is_service_at inv s.object) (slice_get switches c) ≡ true
+  pub letter_on : (l : Letter) → letter_asked (is_service_at inv s.object) s.code s.word ≡ Some l → has_letter_at (is_service_at inv s.object) l (slice_get inv.contacts c) ≡ true
+
 -- the contact may be notified of this
 pub record MayBeTold (inv : Configuration) (w : World) (e : Entry) (outcome : Outcome) (s : Subject) (c : ℕ) : Type 0 where
   pub contact : IsContactOf inv s.object c
@@ -79,10 +88,14 @@ pub record MayBeTold (inv : Configuration) (w : World) (e : Entry) (outcome : Ou
   pub switch_on : IsForced inv e outcome s ⊎ (is_on_at (is_service_at inv s.object) (slice_get w.contacts c) ≡ true)
   pub letter_on : (l : Letter) → letter_asked (is_service_at inv s.object) s.code s.word ≡ Some l → has_letter_at (is_service_at inv s.object) l (slice_get inv.contacts c) ≡ true
 
--- each contact of each notice that goes out with an entry may be notified
+-- each contact of each notice that an entry's own effect sends may be notified
 abbrev pub OnlyWhoMayBeToldIsTold : Type 0
 OnlyWhoMayBeToldIsTold = (inv : Configuration) (w : World) (e : Entry) →
-    All (λ n. All (MayBeTold inv w e (step inv w e).1 n.subject) n.contacts) (went_out w (step inv w e).0)
+    All (λ n. All (MayBeTold inv w e (acted inv w e).1 n.subject) n.contacts) (went_out w (acted inv w e).0)
+
+-- so may each whom the clock tells, by the switches as it finds them
+abbrev pub TheClockTellsWhoMayBeTold : Type 0
+TheClockTellsWhoMayBeTold = (inv : Configuration) (w : World) → All (λ n. All (IsReached inv w.contacts n.subject) n.contacts) (went_out w (told_by_clock inv w))
 
 -- ---- silence is kept
 
@@ -106,7 +119,7 @@ pub record IsLetOut (inv : Configuration) (w w' : World) (e : Entry) (outcome : 
 -- nothing keeps back any notice that goes out with an entry
 abbrev pub SilenceIsKept : Type 0
 SilenceIsKept = (inv : Configuration) (w : World) (e : Entry) →
-    All (λ n. IsLetOut inv w (step inv w e).0 e (step inv w e).1 n.subject) (went_out w (step inv w e).0)
+    All (λ n. IsLetOut inv w (acted inv w e).0 e (acted inv w e).1 n.subject) (went_out w (acted inv w e).0)
 
 -- ---- a problem is notified
 
@@ -117,13 +130,18 @@ nth_problem inv w moment object code number = record {
   contacts = recipients inv w.contacts object number (letter_of (is_service_at inv object) code) true;
 }
 
--- a notice of this code is due at the moment t: none went out of the problem yet, or the last one was of another code, or
--- the interval in force, which is not 0, is over
+-- the object of this index is a volatile service
+abbrev pub is_volatile : Configuration → (object : ℕ) → Bool
+is_volatile inv object = (directives_at inv (Some object)).is_volatile
+
+-- a notice of this code is due at a result at the moment t: the object is a volatile service, none went out of the problem
+-- yet, or the last one was of another code, or the interval in force, which is not 0, is over
 abbrev pub IsNoticeDue : Configuration → (t object : ℕ) → Object → (code : ℕ) → Type 0
 IsNoticeDue inv t object o code =
-    (o.number ≡ 0)
+    (is_volatile inv object ≡ true)
+    ⊎ ((o.number ≡ 0)
     ⊎ ((is_of_code o.notified code ≡ false)
-    ⊎ ((0 < interval_in_force inv object o.number code) × (is_over o.last (interval_in_force inv object o.number code) t ≡ true)))
+    ⊎ ((0 < interval_in_force inv object o.number code) × (is_over o.last (interval_in_force inv object o.number code) t ≡ true))))
 
 -- a result leaves a hard problem of which a notice is due, and, downtimes aside, nothing holds that notice back at the
 -- moment t: w is the world before, w' the world afterwards
@@ -139,16 +157,18 @@ pub record IsProblemToTell (inv : Configuration) (w w' : World) (t object : ℕ)
   pub unacknowledged : is_acknowledged after.acknowledgement ≡ false
   pub no_delay : is_delayed after.not_before t ≡ false
   pub letter_on : has_letter spec.letters (letter_of (is_service_at inv object) after.status.code) ≡ true
+  pub old : have_gone_by after.moments.since (directives_at inv (Some object)).first_notification_delay t ≡ true
   pub host_up : is_service_at inv object ≡ true → host_is_up w'.objects spec ≡ true
+  pub settled : before.number ≡ 0 → is_service_at inv object ≡ true → have_gone_by (back_since (slice_get w'.objects spec.host_object)) inv.settle t ≡ true
   pub someone : 0 < length (nth_problem inv w t object after.status.code (before.number + 1)).contacts
 
 -- where the entry is an applied result of the object that leaves a problem to notify, and `Free` holds of the
 -- downtimes, its notice goes out at that moment, with the number after the one before
 abbrev pub TellsTheProblem : Configuration → World → Entry → (object : ℕ) → (Free : Type 0) → Type 0
 TellsTheProblem inv w e object Free = (code : ℕ) (output : List ℕ) (spec : ObjectSpec) (before after : Object) →
-    (step inv w e).1 ≡ Applied → named inv e.stamped.command ≡ Ok (acts.CheckResult object code output) →
-    IsProblemToTell inv w (step inv w e).0 (moment_of w e) object spec before after → Free →
-    Contains (went_out w (step inv w e).0) (nth_problem inv w (moment_of w e) object after.status.code (before.number + 1))
+    (acted inv w e).1 ≡ Applied → named inv e.stamped.command ≡ Ok (acts.CheckResult object code output) →
+    IsProblemToTell inv w (acted inv w e).0 (moment_of w e) object spec before after → Free →
+    Contains (went_out w (acted inv w e).0) (nth_problem inv w (moment_of w e) object after.status.code (before.number + 1))
 
 -- after all that is due by t, the object is in no downtime, and none waits for its problem
 pub record IsUndisturbed (inv : Configuration) (w : World) (t object : ℕ) : Type 0 where
@@ -161,7 +181,7 @@ AProblemIsTold = (inv : Configuration) (w : World) (e : Entry) (object : ℕ) �
 
 -- and after any journal, where no downtime is active afterwards
 abbrev pub AProblemIsToldAfterAnyJournal : Type 0
-AProblemIsToldAfterAnyJournal = (inv : Configuration) (journal : List Entry) (e : Entry) (object : ℕ) → TellsTheProblem inv (meaning inv journal) e object (IsInNoDowntime inv (step inv (meaning inv journal) e).0 object)
+AProblemIsToldAfterAnyJournal = (inv : Configuration) (journal : List Entry) (e : Entry) (object : ℕ) → TellsTheProblem inv (meaning inv journal) e object (IsInNoDowntime inv (acted inv (meaning inv journal) e).0 object)
 
 -- the world in which the notice of a result is looked for: what is due has happened, the object has taken the result,
 -- and the flexible downtimes that the result starts have started
@@ -176,12 +196,12 @@ TellsUnless (Some why) problem new = All (λ n. n.subject.word ≢ words.Problem
 -- with an applied result of a code that is not 0 the problem goes out exactly where no test of it fails
 abbrev pub AProblemIsToldUnlessWithheld : Type 0
 AProblemIsToldUnlessWithheld = (inv : Configuration) (w : World) (e : Entry) (object code : ℕ) (output : List ℕ) (spec : ObjectSpec) (before after : Object) →
-    (step inv w e).1 ≡ Applied → named inv e.stamped.command ≡ Ok (acts.CheckResult object code output) → code ≢ 0 →
+    (acted inv w e).1 ≡ Applied → named inv e.stamped.command ≡ Ok (acts.CheckResult object code output) → code ≢ 0 →
     slice_get inv.objects object ≡ Some spec → slice_get w.objects object ≡ Some before →
     slice_get (with_result_at inv w e object code output spec before).objects object ≡ Some after →
-    TellsUnless (withheld inv (with_result_at inv w e object code output spec before) object)
+    TellsUnless (withheld inv (with_result_at inv w e object code output spec before) Check object)
     (next_problem inv (with_result_at inv w e object code output spec before) object spec after)
-    (went_out w (step inv w e).0)
+    (went_out w (acted inv w e).0)
 
 -- ---- a recovery is notified
 
@@ -210,9 +230,9 @@ pub record IsRecoveryToTell (inv : Configuration) (w : World) (t object : ℕ) (
 -- the number that the problem had
 abbrev pub ARecoveryIsTold : Type 0
 ARecoveryIsTold = (inv : Configuration) (w : World) (e : Entry) (object : ℕ) (output : List ℕ) (spec : ObjectSpec) (before : Object) →
-    (step inv w e).1 ≡ Applied → named inv e.stamped.command ≡ Ok (acts.CheckResult object 0 output) →
+    (acted inv w e).1 ≡ Applied → named inv e.stamped.command ≡ Ok (acts.CheckResult object 0 output) →
     IsRecoveryToTell inv w (moment_of w e) object spec before →
-    Contains (went_out w (step inv w e).0) (recovery_of inv w (moment_of w e) object before.number)
+    Contains (went_out w (acted inv w e).0) (recovery_of inv w (moment_of w e) object before.number)
 
 -- ---- no problem is notified twice
 
@@ -242,20 +262,40 @@ pub record IsIntervalLater (inv : Configuration) (object code : ℕ) (first seco
   pub repeated : 0 < interval_in_force inv object number code
   pub later : first.moment + interval_in_force inv object number code ≤ second.moment
 
--- two PROBLEM notices of an object with the same code, of two entries between which the problem remains the same, are
--- at least the interval in force apart
+-- the act is a check result of the object
+abbrev pub IsResultOf : (object : ℕ) → Act → Type 0
+IsResultOf object (acts.CheckResult x _ _) = x ≡ object
+IsResultOf object _ = ⊥
+
+-- the entry was applied and is a result of the object, which is a volatile service
+pub record IsVolatileResult (inv : Configuration) (object : ℕ) (e : Entry) (outcome : Outcome) : Type 0 where
+  pub volatile : is_volatile inv object ≡ true
+  pub by_result : AppliesOne inv e outcome (IsResultOf object)
+
+-- two PROBLEM notices of an object with the same code, of two entries, where the problem remains the same after the first
+-- of them up to the second and with it, are at least the interval in force apart, unless the second entry is a result of
+-- a volatile service
 abbrev pub NoProblemIsToldTwice : Type 0
 NoProblemIsToldTwice = (inv : Configuration) (w : World) (first last : Entry) (between : List Entry) (object code : ℕ) (m n : Notice) →
     Contains (went_out w (step inv w first).0) m → IsProblemOf object code m.subject →
-    GoesOn inv object code (step inv w first).0 between →
+    GoesOn inv object code (step inv w first).0 (between ++ last ∷ []) →
     Contains (went_out (meaning_from inv (step inv w first).0 between) (step inv (meaning_from inv (step inv w first).0 between) last).0) n → IsProblemOf object code n.subject →
     IsIntervalLater inv object code m.subject n.subject
+    ⊎ IsVolatileResult inv object last (step inv (meaning_from inv (step inv w first).0 between) last).1
 
 -- the word is PROBLEM
 abbrev pub is_problem_word : Word → Bool
 is_problem_word words.Problem = true
 is_problem_word word = false
 
--- one entry sends one PROBLEM at most
+-- what one entry does sends one PROBLEM at most
 abbrev pub OneProblemAnEntry : Type 0
-OneProblemAnEntry = (inv : Configuration) (w : World) (e : Entry) → count_by (λ n. is_problem_word n.subject.word) (went_out w (step inv w e).0) ≤ 1
+OneProblemAnEntry = (inv : Configuration) (w : World) (e : Entry) → count_by (λ n. is_problem_word n.subject.word) (went_out w (acted inv w e).0) ≤ 1
+
+-- the notice is a PROBLEM of the object
+abbrev pub is_problem_of : (object : ℕ) → Notice → Bool
+is_problem_of object n = is_problem_word n.subject.word && (n.subject.object == object)
+
+-- of each object one PROBLEM at most goes out with an entry
+abbrev pub OneProblemAnObject : Type 0
+OneProblemAnObject = (inv : Configuration) (w : World) (e : Entry) (object : ℕ) → count_by (is_problem_of object) (went_out w (step inv w e).0) ≤ 1

@@ -3,7 +3,7 @@ use Rattle.std.specs.Prelude.{ℕ, ◌+◌, ◌==◌, ◌&&◌, nat_lt, Bool, tr
 use Rattle.mon_checks.specs.declared.transition.Change.{Change}
 use Rattle.mon_downtime.specs.Records.{depth_of}
 use Rattle.mon_inventory.specs.declared.records.ObjectSpec.{ObjectSpec}
-use Rattle.mon_inventory.specs.Configuration.{Configuration}
+use Rattle.mon_inventory.specs.Configuration.{Configuration, directives_at}
 use Rattle.mon_notify.specs.declared.contacts.ContactSwitch.{ContactSwitch}
 use Rattle.mon_notify.specs.declared.facts.Facts.{Facts}
 use Rattle.mon_notify.specs.declared.letter.Letter.{Letter}
@@ -15,12 +15,14 @@ use Rattle.mon_notify.specs.Viable.{problem_viable, recovery_viable}
 use Rattle.mon_notify.specs.Custom.{custom_viable, custom_recipients}
 use Rattle.mon_engine.specs.declared.object.Object.{Object}
 use Rattle.mon_engine.specs.declared.objects.Setting.TheVariants as settings
+use Rattle.mon_engine.specs.declared.notices.Occasion.{Occasion}
+use Rattle.mon_engine.specs.declared.notices.Occasion.TheVariants as occasions
 use Rattle.mon_engine.specs.declared.notice.Notice.{Notice}
 use Rattle.mon_engine.specs.declared.notice.Subject.{Subject}
 use Rattle.mon_engine.specs.declared.notice.Word.{Word}
 use Rattle.mon_engine.specs.declared.notice.Word.TheVariants as words
 use Rattle.mon_engine.specs.Places.{changed_at}
-use Rattle.mon_engine.specs.Objects.{is_service, is_acknowledged, host_is_up, after_told, custom_number, with_setting, reset}
+use Rattle.mon_engine.specs.Objects.{is_service, is_acknowledged, host_is_up, back_since, after_told, custom_number, with_setting, reset}
 use Rattle.mon_engine.specs.World.{World}
 
 -- ---- one notice
@@ -93,7 +95,21 @@ facts inv w object spec o l = record {
   notified = o.notified;
   last = o.last;
   interval = interval_in_force inv object o.number o.status.code;
+  volatile = false;
+  since = o.moments.since;
+  delay = (directives_at inv (Some object)).first_notification_delay;
+  above_back = if is_service spec then back_since (slice_get w.objects spec.host_object) else None;
+  settle = inv.settle;
 }
+
+-- each bad result of a volatile service is due; by the clock it is as any object
+abbrev pub is_volatile_on : Occasion → Configuration → (object : ℕ) → Bool
+is_volatile_on occasions.Check inv object = (directives_at inv (Some object)).is_volatile
+is_volatile_on occasions.Clock inv object = false
+
+-- all that decides on the notice of the object's problem, for the letter of its state
+abbrev pub problem_facts : Configuration → World → Occasion → (object : ℕ) → ObjectSpec → Object → Facts
+problem_facts inv w occasion object spec o = record (facts inv w object spec o (letter_of (is_service spec) o.status.code)) { volatile = is_volatile_on occasion inv object }
 
 -- the notice of a problem, where the tests allow it
 abbrev pub problem_notice_by : Configuration → World → (object : ℕ) → Object → Letter → (may : Bool) → Option Notice
@@ -101,9 +117,9 @@ problem_notice_by inv w object o l may = if may then addressed inv w.contacts (s
 
 -- the notice of the object's problem, where it may go out; its contacts go by the next number and the state's
 -- letter
-unfoldable pub problem_notice : Configuration → World → (object : ℕ) → ObjectSpec → Object → Option Notice
-problem_notice inv w object spec o =
-    problem_notice_by inv w object o (letter_of (is_service spec) o.status.code) (problem_viable (facts inv w object spec o (letter_of (is_service spec) o.status.code)))
+unfoldable pub problem_notice : Configuration → World → Occasion → (object : ℕ) → ObjectSpec → Object → Option Notice
+problem_notice inv w occasion object spec o =
+    problem_notice_by inv w object o (letter_of (is_service spec) o.status.code) (problem_viable (problem_facts inv w occasion object spec o))
 
 -- where the notice of a problem goes out, the object counts it; else nothing changes
 abbrev pub with_problem : World → (object : ℕ) → Option Notice → World
@@ -123,11 +139,18 @@ recovery_notice inv w object hard_recovery spec o =
 abbrev pub with_recovery : World → (object : ℕ) → Option Notice → World
 with_recovery w object n = record (told w n) { objects = changed_at w.objects object reset }
 
+-- the problem of an object is told where its code is not 0 and the notice may go out
+abbrev pub told_problem_of : Configuration → World → Occasion → (object : ℕ) → ObjectSpec → Object → World
+told_problem_of inv w occasion object spec o = if o.status.code == 0 then w else with_problem w object (problem_notice inv w occasion object spec o)
+
+-- the problem of the object of this index is told, where it may be
+unfoldable pub told_problem : Configuration → Occasion → World → (object : ℕ) → World
+told_problem inv occasion w object = of_object w (told_problem_of inv w occasion object) (slice_get inv.objects object) (slice_get w.objects object)
+
 -- the notices of a result that was taken and made this change
 abbrev pub noticed_by : Configuration → World → (object : ℕ) → Change → ObjectSpec → Object → World
 noticed_by inv w object change spec o =
-    if change.recovered then with_recovery w object (recovery_notice inv w object change.hard_recovery spec o)
-    else (if o.status.code == 0 then w else with_problem w object (problem_notice inv w object spec o))
+    if change.recovered then with_recovery w object (recovery_notice inv w object change.hard_recovery spec o) else told_problem_of inv w occasions.Check object spec o
 
 -- the notices of a result, and what they leave of the object
 unfoldable pub noticed : Configuration → World → (object : ℕ) → Change → World

@@ -123,6 +123,11 @@ is_up (Some o) = o.status.code == 0
 abbrev pub host_is_up : List Object → ObjectSpec → Bool
 host_is_up os spec = is_up (slice_get os spec.host_object)
 
+-- the moment at which it came back: the last change of its code, where that is 0
+abbrev pub back_since : Option Object → Option ℕ
+back_since None = None
+back_since (Some o) = if o.status.code == 0 then Some o.moments.changed else None
+
 -- ---- what notices leave
 
 -- one more notice of the problem went out at this clock, of the object's present code

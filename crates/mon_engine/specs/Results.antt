@@ -1,5 +1,5 @@
 -- The effect of a check result on its object, its comments and downtimes, and the notice that goes out.
-use Rattle.std.specs.Prelude.{◌≡◌, ℕ, ◌≤◌, ◌==◌, ◌&&◌, not, Bool, false, if◌then◌else◌, List, ◌++◌, Option, Some, None, Result, Ok, Err, slice_get, option_to_list}
+use Rattle.std.specs.Prelude.{◌≡◌, ℕ, ◌≤◌, ◌&&◌, Bool, false, if◌then◌else◌, List, ◌++◌, Option, Some, None, Result, Ok, Err, slice_get, option_to_list}
 use Rattle.std.specs.List.{flat_map}
 use Rattle.cmd_types.specs.declared.limits.TheConstants.{GREATEST_NUMBER}
 use Rattle.mon_checks.specs.States.{change_by, IsCodeOf, IsWithin}

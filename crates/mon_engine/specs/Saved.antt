@@ -1,5 +1,5 @@
 -- A world that is written and read back, and the world from which a monitor then resumes.
-use Rattle.std.specs.Prelude.{◌≡◌, ℕ, ◌+◌, ◌<◌, ◌≤◌, List, [], IfSome, All}
+use Rattle.std.specs.Prelude.{◌≡◌, ℕ, ◌+◌, ◌*◌, ◌<◌, ◌≤◌, List, [], IfSome, All}
 use Rattle.cmd_types.specs.declared.limits.TheConstants.{GREATEST_NUMBER}
 use Rattle.cmd_types.specs.Bytes.{Lacks}
 use Rattle.mon_checks.specs.States.{IsCodeOf}
@@ -56,7 +56,7 @@ pub record IsSaidWorld (w : World) : Type 0 where
 -- the object fits this line of the inventory after this number of entries
 pub record Fits (before : ℕ) (spec : ObjectSpec) (o : Object) : Type 0 where
   pub state : IsObjectState spec o
-  pub number : o.number ≤ GREATEST_NUMBER + before
+  pub number : o.number ≤ GREATEST_NUMBER + 2 * before
   pub said : IsSaidObject o
 
 -- ---- what is written and read back

@@ -19,7 +19,7 @@ pub record IsObjectState (spec : ObjectSpec) (o : Object) : Type 0 where
   -- the beginning of its hard problem is known, where it is in one
   pub since : is_some o.moments.since ≡ is_of_hard_problem o.status
 
--- the states of the inventory's objects after n entries
+-- the states of the inventory's objects, of which a notification number was raised n times at most
 pub record AreObjectStates (n : ℕ) (specs : List ObjectSpec) (os : List Object) : Type 0 where
   pub as_many : length os ≡ length specs
   pub each : (k : ℕ) (spec : ObjectSpec) (o : Object) → slice_get specs k ≡ Some spec → slice_get os k ≡ Some o → IsObjectState spec o
@@ -31,10 +31,11 @@ pub record IsNoticeOf (inv : Configuration) (notice : Notice) : Type 0 where
   pub object : notice.subject.object < length inv.objects
   pub contacts : All (λ c. c < length inv.contacts) notice.contacts
 
--- what holds of a world after n entries, those before it went on included; each bound that grows goes by n
-pub record IsWorldAt (inv : Configuration) (n : ℕ) (w : World) : Type 0 where
+-- what holds of a world after n entries, those before it went on included, that raised a notification number m times at
+-- most; each bound that grows goes by these
+pub record IsWorldAt (inv : Configuration) (n m : ℕ) (w : World) : Type 0 where
   pub clock : w.clock ≤ GREATEST_NUMBER
-  pub states : AreObjectStates n inv.objects w.objects
+  pub states : AreObjectStates m inv.objects w.objects
   pub contacts : length w.contacts ≡ length inv.contacts
   pub comments : w.notes.last_id ≤ n
   pub noted : All (λ c. c.object < length inv.objects) w.notes.comments
@@ -48,9 +49,13 @@ pub record IsWorldAt (inv : Configuration) (n : ℕ) (w : World) : Type 0 where
 abbrev pub ever : World → ℕ
 ever w = w.before + w.entries
 
+-- how often a notification number was raised at most: by each entry once by its act, and once by the clock
+abbrev pub raised : World → ℕ
+raised w = 2 * ever w
+
 -- a world after all its entries
 abbrev pub IsWorld : Configuration → World → Type 0
-IsWorld inv w = IsWorldAt inv (ever w) w
+IsWorld inv w = IsWorldAt inv (ever w) (raised w) w
 
 -- ---- of private contracts alone
 
@@ -66,6 +71,6 @@ pub record IsTimely (inv : Configuration) (w : World) : Type 0 where
 
 -- what an effect makes of a world, before its entry is counted
 pub record Follows (inv : Configuration) (w w' : World) : Type 0 where
-  pub world : IsWorldAt inv (ever w + 1) w'
+  pub world : IsWorldAt inv (ever w + 1) (raised w + 1) w'
   pub entries : w'.entries ≡ w.entries
   pub before : w'.before ≡ w.before

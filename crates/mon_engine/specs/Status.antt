@@ -4,6 +4,7 @@ use Rattle.std.specs.List.{flat_map}
 use Rattle.std.specs.Fmt.{decimal}
 use Rattle.mon_inventory.specs.declared.records.ObjectSpec.{ObjectSpec}
 use Rattle.mon_inventory.specs.Configuration.{Configuration}
+use Rattle.mon_engine.specs.declared.notices.Occasion.TheVariants.{Clock}
 use Rattle.mon_engine.specs.declared.object.Object.{Object}
 use Rattle.mon_engine.specs.declared.withheld.Withheld.{Withheld}
 use Rattle.mon_engine.specs.Notices.{of_object}
@@ -14,7 +15,7 @@ use Rattle.mon_engine.specs.World.{World}
 
 -- what holds the PROBLEM of the object back; an object of code 0 has no problem
 abbrev pub withheld_now : Configuration → World → (object : ℕ) → Object → Option Withheld
-withheld_now inv w object o = if o.status.code == 0 then None else withheld inv w object
+withheld_now inv w object o = if o.status.code == 0 then None else withheld inv w Clock object
 
 -- CHECKED;CHANGED;SINCE;LAST;WITHHELD
 abbrev pub times_line_of : Configuration → World → (object : ℕ) → ObjectSpec → Object → List ℕ

@@ -14,7 +14,7 @@ use Rattle.mon_engine.specs.Results.{is_hard_problem}
 use Rattle.mon_engine.specs.Effects as acts
 use Rattle.mon_engine.specs.Effects.{Act}
 use Rattle.mon_engine.specs.Clock.{advanced}
-use Rattle.mon_engine.specs.Step.{effect, step}
+use Rattle.mon_engine.specs.Step.{effect, acted}
 use Rattle.mon_engine.specs.Laws.{moment_of, AppliesOne}
 use Rattle.mon_engine.specs.DowntimeLaws.{CancelsDowntime}
 
@@ -34,7 +34,7 @@ MayChangeObject inv object _ = ⊥
 -- that are due change no object
 abbrev pub OtherObjectsStay : Type 0
 OtherObjectsStay = (inv : Configuration) (w : World) (e : Entry) (object : ℕ) (o : Object) → slice_get w.objects object ≡ Some o →
-    (slice_get (step inv w e).0.objects object ≡ Some o) ⊎ AppliesOne inv e (step inv w e).1 (MayChangeObject inv object)
+    (slice_get (acted inv w e).0.objects object ≡ Some o) ⊎ AppliesOne inv e (acted inv w e).1 (MayChangeObject inv object)
 
 -- ---- downtimes
 
@@ -54,9 +54,9 @@ MayChangeDowntime inv ds after d _ = ⊥
 -- effect or after it, or the entry was applied and asked for one of these acts
 abbrev pub OtherDowntimesStay : Type 0
 OtherDowntimesStay = (inv : Configuration) (w : World) (e : Entry) (d : Downtime) → record_of w.downtimes d.id ≡ Some d →
-    (record_of (step inv w e).0.downtimes d.id ≡ Some d)
+    (record_of (acted inv w e).0.downtimes d.id ≡ Some d)
     ⊎ ((FallsDue w.downtimes (moment_of w e) d ⊎ FallsDue (effect inv (advanced inv w (moment_of w e)) e).0.downtimes (moment_of w e) d)
-    ⊎ AppliesOne inv e (step inv w e).1 (MayChangeDowntime inv (advanced inv w (moment_of w e)).downtimes (step inv w e).0.objects d))
+    ⊎ AppliesOne inv e (acted inv w e).1 (MayChangeDowntime inv (advanced inv w (moment_of w e)).downtimes (acted inv w e).0.objects d))
 
 -- the acts that schedule a downtime of this object: on it, or on the services of its host
 abbrev pub Schedules : Configuration → (object : ℕ) → Act → Type 0
@@ -66,5 +66,5 @@ Schedules inv object _ = ⊥
 
 -- a downtime that is there after an entry and was not before is one that the entry schedules, and the entry was applied
 abbrev pub NewDowntimesAreAsked : Type 0
-NewDowntimesAreAsked = (inv : Configuration) (w : World) (e : Entry) (d : Downtime) → record_of w.downtimes d.id ≡ None → record_of (step inv w e).0.downtimes d.id ≡ Some d →
-    AppliesOne inv e (step inv w e).1 (Schedules inv d.object)
+NewDowntimesAreAsked = (inv : Configuration) (w : World) (e : Entry) (d : Downtime) → record_of w.downtimes d.id ≡ None → record_of (acted inv w e).0.downtimes d.id ≡ Some d →
+    AppliesOne inv e (acted inv w e).1 (Schedules inv d.object)

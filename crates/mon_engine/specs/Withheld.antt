@@ -5,15 +5,16 @@ use Rattle.mon_inventory.specs.Configuration.{Configuration}
 use Rattle.mon_notify.specs.declared.facts.Facts.{Facts}
 use Rattle.mon_notify.specs.Letters.{letter_of}
 use Rattle.mon_notify.specs.Recipients.{recipients}
-use Rattle.mon_notify.specs.Viable.{is_delayed, is_due}
+use Rattle.mon_notify.specs.Viable.{is_delayed, is_due, is_old, is_settled}
+use Rattle.mon_engine.specs.declared.notices.Occasion.{Occasion}
 use Rattle.mon_engine.specs.declared.notice.Notice.{Notice}
 use Rattle.mon_engine.specs.declared.notice.Word.TheVariants.{Problem}
 use Rattle.mon_engine.specs.declared.object.Object.{Object}
 use Rattle.mon_engine.specs.Objects.{is_service}
-use Rattle.mon_engine.specs.Notices.{facts, of_object, subject_of}
+use Rattle.mon_engine.specs.Notices.{of_object, problem_facts, subject_of}
 use Rattle.mon_engine.specs.World.{World}
 use Rattle.mon_engine.specs.declared.withheld.Withheld.{Withheld}
-use Rattle.mon_engine.specs.declared.withheld.Withheld.TheVariants.{Program, Switch, Downtime, Host, Letter, Acknowledged, Soft, NotBefore, Interval, Nobody}
+use Rattle.mon_engine.specs.declared.withheld.Withheld.TheVariants.{Program, Switch, Downtime, Host, Letter, Acknowledged, Soft, NotBefore, Interval, Delay, Settle, Nobody}
 
 -- of these tests, each with what it holds back for where it fails, the first that fails
 abbrev pub first_failing : List (Bool × Withheld) → Option Withheld
@@ -32,6 +33,8 @@ tests f =
     ∷ (f.hard, Soft)
     ∷ (not (is_delayed f.not_before f.clock), NotBefore)
     ∷ (is_due f, Interval)
+    ∷ (is_old f, Delay)
+    ∷ (is_settled f, Settle)
     ∷ []
 
 -- the first test that fails; `someone` says whether the notice reaches a contact
@@ -46,10 +49,9 @@ next_problem inv w object spec o = record {
 }
 
 -- what holds the next PROBLEM of the object back, by its line of the inventory and its state
-abbrev pub withheld_of : Configuration → World → (object : ℕ) → ObjectSpec → Object → Option Withheld
-withheld_of inv w object spec o =
-    withheld_by (facts inv w object spec o (letter_of (is_service spec) o.status.code)) (nat_lt 0 (length (next_problem inv w object spec o).contacts))
+abbrev pub withheld_of : Configuration → World → Occasion → (object : ℕ) → ObjectSpec → Object → Option Withheld
+withheld_of inv w occasion object spec o = withheld_by (problem_facts inv w occasion object spec o) (nat_lt 0 (length (next_problem inv w object spec o).contacts))
 
--- what holds the PROBLEM of the object back, where its code is not 0; none where nothing does
-unfoldable pub withheld : Configuration → World → (object : ℕ) → Option Withheld
-withheld inv w object = of_object None (withheld_of inv w object) (slice_get inv.objects object) (slice_get w.objects object)
+-- what holds the PROBLEM of the object back on this occasion, where its code is not 0; none where nothing does
+unfoldable pub withheld : Configuration → World → Occasion → (object : ℕ) → Option Withheld
+withheld inv w occasion object = of_object None (withheld_of inv w occasion object) (slice_get inv.objects object) (slice_get w.objects object)

@@ -1,18 +1,19 @@
 //! Laws over one step of the monitor and over journals, for every world: which parts of the state an entry may change,
 //! and which remain. Each law is the contract of a function that does nothing; the body calls the laws from which it
-//! follows.
+//! follows. *What an entry does* is all but the PROBLEM notices that the option `tell_by_clock` sends after it.
 ghost use Rattle.mon_engine.specs.Clock.{LawOfTheClock, NothingIsLeft, TheClockIsNotRead};
 ghost use Rattle.mon_engine.specs.Figures.{NothingIsCountedAtFirst};
 ghost use Rattle.mon_engine.specs.DowntimeLaws.{DowntimesKeepTheirTime, DowntimesStand};
-ghost use Rattle.mon_engine.specs.Laws.{AcknowledgementsStand, CommentsStand, DoubledCommentsShow, RejectedEntriesChangeNothing, SuppressedProblemsAreNotTold};
+ghost use Rattle.mon_engine.specs.Laws.{AcknowledgementsStand, CommentsStand, DoubledCommentsShow, NothingIsDue, RejectedEntriesChangeNothing, SuppressedProblemsAreNotTold};
 ghost use Rattle.mon_engine.specs.TouchLaws.{NewDowntimesAreAsked, OtherDowntimesStay, OtherObjectsStay};
 
 /// Advancing the clock to one moment and then to a later one leads to the same world as advancing it to the later
-/// moment at once; then no event is due. The events that are due and their effects do not depend on the clock
-/// (profile).
+/// moment at once; then no event is due, nor is one after an entry. The events that are due and their effects do not
+/// depend on the clock (profile).
 pub fn law_of_the_clock()
     ensures twice { LawOfTheClock }
     ensures done { NothingIsLeft }
+    ensures after { NothingIsDue }
     ensures unread { TheClockIsNotRead }
 {
     mon_downtime::law_of_the_clock();
@@ -24,8 +25,8 @@ pub fn nothing_is_counted_at_first()
 {}
 
 /// A rejected entry does no act. The clock moves on to the entry's time, unless the clock is later already. The events
-/// due at the new clock happen, with their notices. The rejection is listed, and the entry is counted. Nothing else
-/// changes (profile).
+/// due at the new clock happen, with their notices. The rejection is listed, and the entry is counted. What the entry
+/// does changes nothing else (profile).
 pub fn rejected_entries_change_nothing()
     ensures { RejectedEntriesChangeNothing }
 {
@@ -47,7 +48,9 @@ pub fn doubled_comments_show()
 
 /// No entry sends a PROBLEM notice of an object that is suppressed after the entry (Notifications). An object is
 /// suppressed if it is acknowledged, in a downtime or in a soft state, has notifications off (its own or the
-/// program's), lacks the state's letter, or has a delay to come. So is a service whose host is in a downtime or not UP.
+/// program's), lacks the state's letter, has a delay to come, or came into its hard problem less than its first
+/// notification delay ago. So is a service whose host is in a downtime or not UP. So is the first notice of a service
+/// whose host came back less than the seconds of `settle` ago (profile).
 pub fn suppressed_problems_are_not_told()
     ensures { SuppressedProblemsAreNotTold }
 {
@@ -83,10 +86,10 @@ pub fn downtimes_stand()
     mon_downtime::law_of_the_clock();
 }
 
-/// An entry changes only the objects that it names and, where the command is for them, the services of a host. Of the
-/// downtimes it changes only those with an event that is due, those that it cancels, and those that wait for a problem
-/// of an object in which a result leaves a hard problem. Each new downtime is of an object that the entry names, or of
-/// a service of the host that it names (External Commands; profile).
+/// What an entry does changes only the objects that it names and, where the command is for them, the services of a
+/// host. Of the downtimes it changes only those with an event that is due, those that it cancels, and those that wait
+/// for a problem of an object in which a result leaves a hard problem. Each new downtime is of an object that the entry
+/// names, or of a service of the host that it names (External Commands; profile).
 pub fn entries_touch_nobody_else()
     ensures objects { OtherObjectsStay }
     ensures downtimes { OtherDowntimesStay }

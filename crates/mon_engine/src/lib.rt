@@ -5,6 +5,7 @@
 
 mod acknowledgements;
 mod act;
+mod by_clock;
 mod clock;
 mod custom_notices;
 mod downtime_lines;
@@ -44,8 +45,8 @@ pub use laws::{
 pub use lines::{Field, put_fields, put_line, put_word};
 pub use monitor::Monitor;
 pub use notice_laws::{
-    a_problem_is_told, a_recovery_is_told, no_problem_is_told_twice, only_who_may_be_told_is_told,
-    silence_is_kept,
+    a_problem_is_told, a_recovery_is_told, no_problem_is_told_twice, nobody_is_forgotten,
+    only_who_may_be_told_is_told, silence_is_kept,
 };
 pub use object::{Acknowledgement, Moments, Object};
 pub use objects::initial_objects;

@@ -4,7 +4,7 @@
 ghost use Rattle.std.specs.Prelude.{◌≡◌, ◌<◌, ◌+◌, ◌-◌, ◌^◌, true, IfOk, OnOk, Some, length, slice_get};
 ghost use Rattle.mon_engine.specs.declared.object.Object.{Object};
 ghost use Rattle.mon_inventory.specs.Facts.{IsInventory};
-ghost use Rattle.mon_engine.specs.Notices.{to_someone, addressed, told, both_on, facts, subject_of, downtime_notice, acknowledgement_notice, problem_notice, recovery_notice, noticed};
+ghost use Rattle.mon_engine.specs.Notices.{to_someone, addressed, told, both_on, facts, problem_facts, subject_of, downtime_notice, acknowledgement_notice, problem_notice, recovery_notice, told_problem, noticed};
 ghost use Rattle.mon_notify.specs.Letters.{letter_of};
 ghost use Rattle.mon_engine.specs.Objects.{is_service};
 ghost use Rattle.mon_engine.specs.Sound.{IsTellable};
@@ -12,7 +12,7 @@ ghost use Rattle.mon_engine.specs.Sound.{IsTellable};
 use crate::acknowledgements::is_acknowledged;
 use crate::notice::{Notice, Subject, Word};
 use crate::object::{Found, Object};
-use crate::results::host_is_up;
+use crate::results::{back_since, host_is_up};
 use crate::state::State;
 use cmd_types::{Memory, Numbers};
 use mon_checks::Change;
@@ -94,6 +94,13 @@ fn addressed(
         reach.escalate,
     )?;
     Ok(to_someone(subject, contacts))
+}
+
+/// What a PROBLEM notice is tried at: each accepted check result of its object, and the clock.
+#[derive(Clone, Copy)]
+pub enum Occasion {
+    Check,
+    Clock,
 }
 
 /// The letter of the object's present state in notification options.
@@ -270,30 +277,60 @@ impl State {
             notified: known.notified,
             last: known.last,
             interval: interval_in_force(inventory, object, known.number, known.status.code),
+            volatile: false,
+            since: known.moments.since,
+            delay: inventory.directives(object).first_notification_delay,
+            above_back: if service {
+                back_since(self.objects.get(spec.host_object))
+            } else {
+                None
+            },
+            settle: inventory.settle(),
+        }
+    }
+
+    /// Gathers the facts that decide whether the next PROBLEM notice of the object may go out on this occasion.
+    pub fn problem_facts(
+        &self,
+        inventory: &Inventory,
+        found: Found<'_>,
+        occasion: Occasion,
+    ) -> Facts
+        requires object { found.index < length inventory.now.objects }
+        requires host { found.spec.now.host_object < length self.now.objects }
+        ensures { result ≡ problem_facts inventory.now self.now occasion found.entry.index found.entry.spec.now found.entry.state.now }
+    {
+        let volatile = match occasion {
+            Occasion::Check => inventory.directives(found.index).is_volatile,
+            Occasion::Clock => false,
+        };
+        Facts {
+            volatile,
+            ..self.facts(inventory, found, state_letter(found))
         }
     }
 
     /// Makes the next PROBLEM notice of the object, with the number that follows the last; `None` where the notice may
-    /// not go out or reaches nobody.
+    /// not go out on this occasion or reaches nobody.
     #[tactic(auto, unfolding(crate::specs::Notices::problem_notice))]
     fn problem_notice(
         &self,
         alloc: Global,
         inventory: &Inventory,
         found: Found<'_>,
+        occasion: Occasion,
     ) -> Result<Option<Notice>, Memory>
         requires object { found.index < length inventory.now.objects }
         requires host { found.spec.now.host_object < length self.now.objects }
         requires tellable { IsTellable inventory.now self.now }
         requires next { found.state.now.number < 2 ^ 64 - 1 }
-        ensures { IfOk result (λ n. n ≡ problem_notice inventory.now self.now found.entry.index found.entry.spec.now found.entry.state.now) }
+        ensures { IfOk result (λ n. n ≡ problem_notice inventory.now self.now occasion found.entry.index found.entry.spec.now found.entry.state.now) }
     {
-        let letter = state_letter(found);
-        if !problem_viable(&self.facts(inventory, found, letter)) {
+        if !problem_viable(&self.problem_facts(inventory, found, occasion)) {
             return Ok(None);
         }
         let subject = subject_of(self.clock, Word::Problem, found, found.state.number + 1);
-        let reach = Reach::escalated(letter);
+        let reach = Reach::escalated(state_letter(found));
         addressed(alloc, inventory, &self.contacts, subject, reach)
     }
 
@@ -323,10 +360,39 @@ impl State {
         addressed(alloc, inventory, &self.contacts, subject, reach)
     }
 
+    /// Sends the next PROBLEM notice of the object and counts it, where the object's code is not 0 and the notice may
+    /// go out on this occasion. If memory runs out, the object may have counted a notice that is not sent.
+    #[tactic(auto, unfolding(crate::specs::Notices::told_problem))]
+    pub fn tell_problem(
+        &mut self,
+        alloc: Global,
+        inventory: &Inventory,
+        object: u16,
+        occasion: Occasion,
+    ) -> Result<(), Memory>
+        requires object { object < length inventory.now.objects }
+        requires sound { IsInventory inventory.now }
+        requires tellable { IsTellable inventory.now self.old }
+        requires next { (o : Object) → slice_get self.old.objects object ≡ Some o → o.number < 2 ^ 64 - 1 }
+        ensures { OnOk result (self.new ≡ told_problem inventory.now occasion self.old object) }
+    {
+        let found = self.found(inventory, object);
+        if found.state.status.code == 0 {
+            return Ok(());
+        }
+        match self.problem_notice(alloc, inventory, found, occasion)? {
+            None => Ok(()),
+            Some(notice) => {
+                self.objects.count_notice(object, self.clock);
+                self.tell(Some(notice))
+            }
+        }
+    }
+
     /// Sends the notice of a check result that made this change, where it may go out. A recovery, notified or not,
     /// resets the object's number, last notice and delay; a PROBLEM notice is counted. If memory runs out, the object
     /// may be changed without its notice.
-    #[tactic(auto, unfolding(crate::specs::Notices::noticed))]
+    #[tactic(auto, unfolding(crate::specs::Notices::noticed, crate::specs::Notices::told_problem))]
     pub fn tell_change(
         &mut self,
         alloc: Global,
@@ -347,15 +413,6 @@ impl State {
             self.objects.reset_notices(object);
             return self.tell(notice);
         }
-        if found.state.status.code == 0 {
-            return Ok(());
-        }
-        match self.problem_notice(alloc, inventory, found)? {
-            None => Ok(()),
-            Some(notice) => {
-                self.objects.count_notice(object, self.clock);
-                self.tell(Some(notice))
-            }
-        }
+        self.tell_problem(alloc, inventory, object, Occasion::Check)
     }
 }

@@ -166,7 +166,7 @@ fn fits(spec: &ObjectSpec, before: u64, object: &Object) -> bool
     ensures { IsTrue result ↔ Fits before spec.now object.now }
 {
     is_possible_status(spec, object)
-        && object.number <= GREATEST_NUMBER + before
+        && object.number <= GREATEST_NUMBER + 2 * before
         && is_moment(object.last)
         && is_code(object.notified)
         && is_moment(object.not_before)
@@ -178,8 +178,8 @@ fn fits(spec: &ObjectSpec, before: u64, object: &Object) -> bool
 fn misfit_of_objects(inventory: &Inventory, before: u64, objects: &[Object]) -> Option<usize>
     requires { before ≤ GREATEST_BEFORE }
     ensures all { MatchOption result
-        (AreObjectStates before inventory.now.objects objects.now × All IsSaidObject objects.now)
-        (λ _. AreObjectStates before inventory.now.objects objects.now → All IsSaidObject objects.now → ⊥) }
+        (AreObjectStates (2 * before) inventory.now.objects objects.now × All IsSaidObject objects.now)
+        (λ _. AreObjectStates (2 * before) inventory.now.objects objects.now → All IsSaidObject objects.now → ⊥) }
     ensures at { IfSome result (λ place. ObjectFits before inventory.now.objects objects.now place → ⊥) }
     ensures earlier { (k : ℕ) → IfSome result (λ place. k < place) → ObjectFits before inventory.now.objects objects.now k }
 {

@@ -5,7 +5,7 @@ ghost use Rattle.std.specs.Prelude.{◌≡◌, ◌<◌, OnOk, length, Some, if�
 ghost use Rattle.mon_checks.specs.States.{IsWithin};
 ghost use Rattle.mon_inventory.specs.Facts.{IsInventory};
 ghost use Rattle.mon_notes.specs.Comments.{without_acknowledged};
-ghost use Rattle.mon_engine.specs.Objects.{acknowledgement_after, is_of_hard_problem, moments_after, object_after, host_is_up};
+ghost use Rattle.mon_engine.specs.Objects.{acknowledgement_after, back_since, is_of_hard_problem, moments_after, object_after, host_is_up};
 ghost use Rattle.mon_engine.specs.Results.{is_taken, checked_as, CanTake, is_hard_problem, with_started, after_check_result, IsCodeAt};
 ghost use Rattle.mon_engine.specs.Sound.{IsWorld, IsTimely};
 ghost use Rattle.mon_engine.specs.Stops.{Acts};
@@ -128,6 +128,13 @@ pub fn host_is_up(objects: &[Object], spec: &ObjectSpec) -> bool
     ensures { result ≡ host_is_up objects.now spec.now }
 {
     objects[spec.host_object as usize].status.code == 0
+}
+
+/// The second at which the object came back: the last change of its code; `None` where its code is not 0.
+pub fn back_since(object: &Object) -> Option<u64>
+    ensures { result ≡ back_since (Some object.now) }
+{
+    (object.status.code == 0).then_some(object.moments.changed)
 }
 
 /// Whether passive check results of the object are accepted: the program's switch for its kind and its own switch are

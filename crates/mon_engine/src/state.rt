@@ -10,8 +10,10 @@ ghost use Rattle.mon_engine.specs.World.{initial};
 ghost use Rattle.mon_engine.specs.Step.{effect, step};
 ghost use Rattle.mon_engine.specs.Sound.{IsWorld, Follows};
 ghost use Rattle.mon_engine.specs.SavedLaws.{resumed};
+ghost use Rattle.mon_engine.specs.Wakes.{IsQuiet};
 ghost use Rattle.mon_engine.specs.declared.state.TheConstants.{GREATEST_BEFORE};
 
+use crate::by_clock::unless_due;
 use crate::notice::Notice;
 use crate::objects::Objects;
 use crate::outcome::{EngineFault, Outcome, Rejection};
@@ -19,7 +21,7 @@ use crate::parts::Parts;
 use crate::stop::ActStop;
 use crate::switches::{Program, first_contacts};
 use cmd_types::{Entry, Memory};
-use mon_downtime::Downtimes;
+use mon_downtime::{Downtimes, law_of_the_clock};
 use mon_inventory::Inventory;
 use mon_notes::Notes;
 use mon_notify::ContactSwitch;
@@ -27,7 +29,7 @@ use std::alloc::Global;
 use std::marker::Model;
 
 /// The greatest number of entries before those that a monitor counts itself, 2^40 - 1: a choice (profile). Each entry
-/// adds at most one comment, raises a notification number by at most one, and adds at most one downtime to each object.
+/// adds at most one comment, raises a notification number by at most two, and adds at most one downtime to each object.
 /// So each id and each number is below 2^54, and nothing overflows.
 pub const GREATEST_BEFORE: u64 = 1_099_511_627_775;
 
@@ -187,27 +189,38 @@ impl State {
 
     /// Applies one entry and counts it. First the events due by the entry's time happen, then its act is done or its
     /// rejection listed, then the events that the act made due happen. Sets the clock to the entry's time, unless the
-    /// clock is later. If memory runs out, a part of this may be done.
-    #[tactic(auto, unfolding(crate::specs::Step::step))]
+    /// clock is later. With the option `tell_by_clock` each PROBLEM notice goes out then that may. If memory runs out, a
+    /// part of this may be done.
+    #[tactic(auto, unfolding(crate::specs::Step::step, crate::specs::Step::acted))]
     pub fn step(
         &mut self,
         alloc: Global,
         inventory: &Inventory,
         entry: &Entry,
+        quiet: &mut Option<u64>,
     ) -> Result<Outcome, EngineFault>
         requires sound { IsInventory inventory.now }
         requires world { IsWorld inventory.now self.old }
         requires room { self.old.entries < GREATEST_LIMIT }
+        requires quiet { IsQuiet inventory.now self.old quiet.old }
         ensures ok { IfOk result (λ o. step inventory.now self.old entry.now ≡ (self.new, o)) }
         ensures world { OnOk result (IsWorld inventory.now self.new) }
         ensures entries { OnOk result (self.new.entries ≡ self.old.entries + 1) }
+        ensures quiet { OnOk result (IsQuiet inventory.now self.new quiet.new) }
         ensures err { IfErr result (λ e. e ≡ Memory) }
     {
+        // For the proof alone, at no cost when it runs: where nothing is due, only the clock changes.
+        law_of_the_clock();
         let t = self.clock.max(entry.stamped.time());
+        let was_due = self.is_due(t);
         self.advance(alloc, inventory, t)?;
+        let by_act = self.touched(inventory, entry, *quiet);
         let outcome = self.apply_command(alloc, inventory, entry)?;
         self.entries += 1;
+        let is_due = self.is_due(t);
         self.advance(alloc, inventory, t)?;
+        let touched = unless_due(was_due, is_due, by_act);
+        self.tell_by_clock(alloc, inventory, touched, quiet)?;
         Ok(outcome)
     }
 }

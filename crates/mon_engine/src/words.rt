@@ -78,6 +78,8 @@ pub fn withheld_text(withheld: Option<Withheld>) -> &'static [u8]
         Some(Withheld::Soft) => b"soft",
         Some(Withheld::NotBefore) => b"not_before",
         Some(Withheld::Interval) => b"interval",
+        Some(Withheld::Delay) => b"delay",
+        Some(Withheld::Settle) => b"settle",
         Some(Withheld::Nobody) => b"nobody",
     }
 }

@@ -1,10 +1,12 @@
 -- What holds of nothing and stays so, line by line.
 use Rattle.std.proofs.Common.{◌≡◌, ℕ, ◌<◌, ◌≤◌, ◌&&◌, not, Bool, true, false, Option, Some, None, IfSome, Ok, List, [], ◌∷◌, ◌++◌, length, leb, ltb, slice_get, inl, inr, refl, sym, ap, ◌∙◌, arith, length-append, unwrap_or}
+use Rattle.std.specs.Prelude.{All}
+use Rattle.std.proofs.Math.ListN.{set, length-set}
 use Rattle.std.specs.Str.{all_ascii_digits}
 use Rattle.std.specs.Str.Parse.{digits_value}
 use Rattle.std.proofs.lemmas.Bool.{leb-false, leb-true, and_parts}
 use Rattle.std.proofs.lemmas.Option.{same_Some}
-use Rattle.std.proofs.lemmas.List.Elements.{All-nil, All-push, All-weaker}
+use Rattle.std.proofs.lemmas.List.Elements.{All-nil, All-push, All-set, All-get_or, All-weaker}
 use Rattle.cmd_types.specs.TextLines.{split_lines}
 use Rattle.cmd_types.specs.Digits.{is_number}
 use Rattle.cmd_types.specs.declared.limits.TheConstants.{MOST_DIGITS, GREATEST_NUMBER}
@@ -12,18 +14,20 @@ use Rattle.mon_inventory.specs.declared.records.ContactSpec.{ContactSpec}
 use Rattle.mon_inventory.specs.declared.records.ObjectSpec.{ObjectSpec}
 use Rattle.mon_inventory.specs.declared.records.Escalation.{Escalation}
 use Rattle.mon_inventory.specs.declared.records.OptionSpec.{OptionSpec}
+use Rattle.mon_inventory.specs.declared.records.Directives.{Directives}
 use Rattle.mon_inventory.specs.declared.limits.TheConstants.{MOST_CONTACTS, MOST_OBJECTS, MOST_ESCALATIONS}
 use Rattle.mon_inventory.specs.Lists.{StandsAt}
-use Rattle.mon_inventory.specs.Line.{Form, ContactForm, HostForm, ServiceForm, EscalationForm, OptionForm, NoForm, form, value_of, is_max, is_option}
+use Rattle.mon_inventory.specs.Line.{Form, ContactForm, HostForm, ServiceForm, EscalationForm, OptionForm, SettleForm, DelayForm, VolatileForm, NoForm, form, value_of, is_positive, is_option}
 use Rattle.mon_inventory.specs.Lookups.{IsContactNamed, IsHostNamed, IsServiceNamed, IsOptionNamed, contact_of, host_of, service_at, service_by, service_of}
-use Rattle.mon_inventory.specs.Configuration.{Configuration, nothing, cause_of, with_form, with_line, contact_made, host_made, service_made, escalation_made, option_made, said_of, with_option, inventory_of, inventory}
+use Rattle.mon_inventory.specs.Configuration.{Configuration, nothing, cause_of, with_form, with_line, contact_made, host_made, service_made, escalation_made, option_made, said_of, with_object, with_option, object_named, no_directives, inventory_of, inventory}
 use Rattle.mon_inventory.specs.Seen.{IsFine}
-use Rattle.mon_inventory.specs.Facts.{AreContacts, IsObject, IsEscalation, IsInventory}
+use Rattle.mon_inventory.specs.Facts.{AreContacts, IsObject, IsEscalation, AreSeconds, AreDirectives, IsInventory}
 use Rattle.mon_inventory.proofs.Standing.{stands, stands_weaker, stands_push, stands_last, slice_get-push_cases, AtMostOne-nil, AtMostOne-push}
 use Rattle.mon_inventory.proofs.Lookups.{IsServiceAt, host_found, service_found, contact_not_found, host_not_found, service_not_found}
 use Rattle.mon_inventory.proofs.Said.{option_not_found}
 use Rattle.mon_inventory.proofs.Fine.{both, all_three, is_absent, is_there, object_within}
 use Rattle.mon_inventory.proofs.Contacts.{contacts_stand}
+use Rattle.mon_inventory.proofs.Indexed.{as_many_push}
 use Rattle.mon_inventory.proofs.Lines.{lines_keep, fine_line}
 
 -- ---- numbers
@@ -35,15 +39,15 @@ number_small text e =
     let few = and_parts (leb (length text) MOST_DIGITS) (all_ascii_digits text && small) some.1 in
     leb-true _ _ (and_parts (all_ascii_digits text) small few.1).1
 
-max_in_range : (text : List ℕ) → is_max text ≡ true → (1 ≤ value_of text) × (value_of text ≤ GREATEST_NUMBER)
-max_in_range text e = let parts = and_parts (is_number text) (leb 1 (value_of text)) e in (leb-true 1 (value_of text) parts.1, number_small text parts.0)
+in_range : (text : List ℕ) → is_positive text ≡ true → (1 ≤ value_of text) × (value_of text ≤ GREATEST_NUMBER)
+in_range text e = let parts = and_parts (is_number text) (leb 1 (value_of text)) e in (leb-true 1 (value_of text) parts.1, number_small text parts.0)
 
 -- ---- lists of contacts
 
 more_contacts : (n m : ℕ) (xs : List ℕ) → n ≤ m → AreContacts n xs → AreContacts m xs
 more_contacts n m xs le h = record { within = All-weaker (λ x. x < n) (λ x. x < m) (λ x lt. omega arith) xs h.within; once = h.once }
 
-longer : {X : Type 0} (xs : List X) (x : X) → length xs ≤ length (xs ++ x ∷ [])
+pub longer : {X : Type 0} (xs : List X) (x : X) → length xs ≤ length (xs ++ x ∷ [])
 longer xs x = omega (arith, length-append xs (x ∷ []))
 
 few_more : {X : Type 0} (xs : List X) (x : X) (m : ℕ) → length xs < m → length (xs ++ x ∷ []) ≤ m
@@ -76,12 +80,15 @@ contact_sound k c h new few = record {
     interval_small = g.interval_small;
     contacts_stand = more_contacts _ _ e.contacts (longer k.contacts c) g.contacts_stand;
   }) k.escalations h.escalations;
+  directives_many = h.directives_many;
+  directives = h.directives;
+  settle = h.settle;
 }
 
 object_sound : (k : Configuration) (o : ObjectSpec) → IsInventory k → length k.objects < MOST_OBJECTS → IsObject (length k.contacts) (k.objects ++ o ∷ []) (length k.objects) o
     → ((name : List ℕ) → IsHostNamed name o → (n : ℕ) → StandsAt (IsHostNamed name) k.objects n → ⊥)
     → ((host name : List ℕ) → IsServiceNamed host name o → (n : ℕ) → StandsAt (IsServiceNamed host name) k.objects n → ⊥)
-    → IsInventory (record k { objects = k.objects ++ o ∷ [] })
+    → IsInventory (with_object k o)
 object_sound k o h few is new_host new_service = record {
   few_contacts = h.few_contacts;
   few_objects = few_more k.objects o MOST_OBJECTS few;
@@ -109,6 +116,9 @@ object_sound k o h few is new_host new_service = record {
     contacts_stand = g.contacts_stand;
     object_stands = let more = longer k.objects o in let lt = g.object_stands in omega arith;
   }) k.escalations h.escalations;
+  directives_many = as_many_push k.directives _ k.objects _ no_directives o h.directives_many refl refl;
+  directives = All-push AreDirectives k.directives no_directives h.directives tt;
+  settle = h.settle;
 }
 
 escalation_sound : (k : Configuration) (e : Escalation) → IsInventory k → length k.escalations < MOST_ESCALATIONS → IsEscalation (length k.contacts) (length k.objects) e → IsInventory (record k { escalations = k.escalations ++ e ∷ [] })
@@ -123,6 +133,9 @@ escalation_sound k e h few is = record {
   options_known = h.options_known;
   objects = h.objects;
   escalations = All-push (IsEscalation (length k.contacts) (length k.objects)) k.escalations e h.escalations is;
+  directives_many = h.directives_many;
+  directives = h.directives;
+  settle = h.settle;
 }
 
 abbrev IsOption : OptionSpec → Type 0
@@ -140,7 +153,32 @@ option_sound k o h known new = record {
   options_known = All-push IsOption k.options o h.options_known known;
   objects = h.objects;
   escalations = h.escalations;
+  directives_many = h.directives_many;
+  directives = h.directives;
+  settle = h.settle;
 }
+
+-- other directives and other seconds to settle alone
+settings_sound : (k : Configuration) (ds : List Directives) (s : Option ℕ) → IsInventory k → length ds ≡ length k.directives → All AreDirectives ds → AreSeconds s → IsInventory (record k { directives = ds; settle = s })
+settings_sound k ds s h many each settle = record {
+  few_contacts = h.few_contacts;
+  few_objects = h.few_objects;
+  few_escalations = h.few_escalations;
+  contacts_once = h.contacts_once;
+  hosts_once = h.hosts_once;
+  services_once = h.services_once;
+  options_once = h.options_once;
+  options_known = h.options_known;
+  objects = h.objects;
+  escalations = h.escalations;
+  directives_many = many ∙ h.directives_many;
+  directives = each;
+  settle = settle;
+}
+
+-- the directives of an object that is there are others
+directive_sound : (k : Configuration) (object : ℕ) (d : Directives) → IsInventory k → AreDirectives d → IsInventory (record k { directives = set k.directives object d })
+directive_sound k object d h is = settings_sound k (set k.directives object d) k.settle h (length-set k.directives object d) (All-set AreDirectives k.directives object d is h.directives) h.settle
 
 -- ---- what a line adds
 
@@ -162,8 +200,8 @@ at_host k host name h n sound here s =
 host_sound : (k : Configuration) (name max interval options contacts : List ℕ) → IsInventory k → IsFine k (HostForm name max interval options contacts)
     → IsInventory (with_form k (HostForm name max interval options contacts))
 host_sound k name max interval options contacts h fine =
-    let numbers = both (is_max max) (is_number interval) fine.numbered in
-    let range = max_in_range max numbers.0 in
+    let numbers = both (is_positive max) (is_number interval) fine.numbered in
+    let range = in_range max numbers.0 in
     object_sound k (host_made k name max interval options contacts) h (leb-false MOST_OBJECTS _ fine.few) (record {
       max_least = range.0;
       max_small = range.1;
@@ -176,8 +214,8 @@ host_sound k name max interval options contacts h fine =
 service_sound : (k : Configuration) (host name max interval options contacts : List ℕ) → IsInventory k → IsFine k (ServiceForm host name max interval options contacts)
     → IsInventory (with_form k (ServiceForm host name max interval options contacts))
 service_sound k host name max interval options contacts h fine =
-    let numbers = both (is_max max) (is_number interval) fine.numbered in
-    let range = max_in_range max numbers.0 in
+    let numbers = both (is_positive max) (is_number interval) fine.numbered in
+    let range = in_range max numbers.0 in
     let host_object = unwrap_or (host_of k.objects host) 0 in
     let known = is_there (host_of k.objects host) fine.host_known in
     let here = host_found k.objects host (Some host_object) (sym known) in
@@ -206,16 +244,22 @@ form_sound k (EscalationForm host service first last interval options contacts) 
       contacts_stand = contacts_stand k contacts;
     })
 form_sound k (OptionForm name value) h fine = option_sound k (option_made name value) h (not_not (is_option name) fine.formed) (is_absent _ fine.new)
+form_sound k (SettleForm seconds) h fine = settings_sound k k.directives (Some (value_of seconds)) h refl h.directives (in_range seconds (not_not (is_positive seconds) fine.numbered))
+form_sound k (DelayForm host service seconds) h fine = directive_sound k (object_named k host service) _ h (in_range seconds (not_not (is_positive seconds) fine.numbered))
+form_sound k (VolatileForm host service) h fine =
+    let object = object_named k host service in
+    let within = object_within k host service fine.host_known fine.service_known in
+    directive_sound k object _ h (All-get_or AreDirectives k.directives object no_directives (let many = h.directives_many in omega arith) h.directives)
 form_sound k NoForm h fine = h
 
-line_sound : (k : Configuration) (line : List ℕ) → cause_of k line ≡ None → IsInventory k → IsInventory (with_line k line)
+pub line_sound : (k : Configuration) (line : List ℕ) → cause_of k line ≡ None → IsInventory k → IsInventory (with_line k line)
 line_sound k line e h =
     elim (fine_line k line e) [
       | inl empty ↦ rw empty h
       | inr fine ↦ form_sound k (form line) h fine
     ]
 
-nothing_sound : IsInventory nothing
+pub nothing_sound : IsInventory nothing
 nothing_sound = record {
   few_contacts = omega arith;
   few_objects = omega arith;
@@ -227,6 +271,9 @@ nothing_sound = record {
   options_known = All-nil IsOption;
   objects = λ n o e. absurd (cc);
   escalations = All-nil (IsEscalation 0 0);
+  directives_many = refl;
+  directives = All-nil AreDirectives;
+  settle = tt;
 }
 
 pub sound : (text : List ℕ) (k : Configuration) → inventory text ≡ Ok k → IsInventory k

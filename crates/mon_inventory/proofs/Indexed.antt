@@ -72,9 +72,9 @@ on_ok Q (Ok x) p f = f p
 on_ok Q (Err e) p f = tt
 
 pub indexed_empty : (a : Index) → a.contacts.items ≡ [] → a.contact_names ≡ [] → a.objects.items ≡ [] → a.host_names ≡ [] → a.service_names.items ≡ [] → a.services.items ≡ []
-    → a.escalations.items ≡ [] → a.object_escalations.items ≡ [] → IsIndexed a
+    → a.escalations.items ≡ [] → a.object_escalations.items ≡ [] → a.directives.items ≡ [] → IsIndexed a
 unfolding contact_of host_of service_at services_of escalations_of
-indexed_empty a c cn o hn sn s e oe = record {
+indexed_empty a c cn o hn sn s e oe d = record {
   contacts_named = λ q. rw (cn, c) refl;
   hosts_named = λ q. rw (hn, o) refl;
   services_named = λ h q. rw (sn, o) (none h q);
@@ -83,6 +83,7 @@ indexed_empty a c cn o hn sn s e oe = record {
   services_many = rw (s, o) refl;
   escalations_told = λ h. rw (oe, e) (no_indices h);
   escalations_many = rw (oe, o) refl;
+  directives_many = rw (d, o) refl;
   few_contacts = rw c (omega arith);
   few_objects = rw o (omega arith);
   few_escalations = rw e (omega arith);

@@ -14,4 +14,5 @@ pub mod Lines
 pub mod FirstFault
 mod WorkedTexts
 pub mod Facts
+pub mod Settings
 pub mod Order

@@ -16,7 +16,8 @@ Fails lines number cause = inventory_of lines ≡ Err (number, cause)
 
 each_kind : Makes
     (codes "contact;ann;d,u,r,s;w,u,c,r,s" ∷ codes "contact;bob;d,r;c,r" ∷ codes "host;web;3;1800;d,u,r,s;ann" ∷ codes "service;web;http;3;600;w,u,c,r,s;bob,ann,bob"
-    ∷ codes "escalation;web;http;2;0;300;c,r;bob" ∷ codes "option;passive_host_checks_are_soft;1" ∷ [])
+    ∷ codes "escalation;web;http;2;0;300;c,r;bob" ∷ codes "option;passive_host_checks_are_soft;1"
+    ∷ codes "delay;web;http;300" ∷ codes "volatile;web;http" ∷ codes "settle;60" ∷ codes "delay;web;;30" ∷ [])
     (record {
       contacts = record { name = codes "ann"; host_letters = record { w = false; u = true; c = false; d = true; r = true; s = true }; service_letters = record { w = true; u = true; c = true; d = false; r = true; s = true } }
           ∷ record { name = codes "bob"; host_letters = record { w = false; u = false; c = false; d = true; r = true; s = false }; service_letters = record { w = false; u = false; c = true; d = false; r = true; s = false } } ∷ [];
@@ -24,6 +25,8 @@ each_kind : Makes
           ∷ record { host = codes "web"; service = Some (codes "http"); host_object = 0; max = 3; interval = 600; letters = record { w = true; u = true; c = true; d = false; r = true; s = true }; contacts = 1 ∷ 0 ∷ [] } ∷ [];
       escalations = record { object = 1; first = 2; last = 0; interval = 300; letters = record { w = false; u = false; c = true; d = false; r = true; s = false }; contacts = 1 ∷ [] } ∷ [];
       options = record { name = codes "passive_host_checks_are_soft"; on = true } ∷ [];
+      directives = record { first_notification_delay = Some 30; is_volatile = false } ∷ record { first_notification_delay = Some 300; is_volatile = true } ∷ [];
+      settle = Some 60;
     })
 unfolding inventory_of items contact_of host_of service_at
 each_kind = refl
@@ -61,6 +64,30 @@ no_such_service = refl
 no_such_contact : Fails (codes "host;web;3;1800;;zed" ∷ []) 1 UnknownContact
 unfolding inventory_of items contact_of host_of
 no_such_contact = refl
+
+no_service_is_volatile : Fails (codes "host;web;1;0;;" ∷ codes "volatile;web;" ∷ []) 2 BadForm
+unfolding inventory_of items contact_of host_of
+no_service_is_volatile = refl
+
+no_delay : Fails (codes "delay;web;;0" ∷ []) 1 BadNumber
+unfolding inventory_of items
+no_delay = refl
+
+settled_twice : Fails (codes "settle;60" ∷ codes "settle;60" ∷ []) 2 Duplicate
+unfolding inventory_of items
+settled_twice = refl
+
+delayed_twice : Fails (codes "host;web;1;0;;" ∷ codes "delay;web;;30" ∷ codes "delay;web;;60" ∷ []) 3 Duplicate
+unfolding inventory_of items contact_of host_of
+delayed_twice = refl
+
+no_such_host_is_delayed : Fails (codes "delay;web;http;30" ∷ []) 1 UnknownHost
+unfolding inventory_of items host_of
+no_such_host_is_delayed = refl
+
+no_such_service_is_volatile : Fails (codes "host;web;1;0;;" ∷ codes "volatile;web;http" ∷ []) 2 UnknownService
+unfolding inventory_of items contact_of host_of service_at
+no_such_service_is_volatile = refl
 
 -- ---- which of two is told
 

@@ -1,10 +1,11 @@
 -- What holds of each inventory that was read without a fault.
-use Rattle.std.specs.Prelude.{◌≡◌, ◌≢◌, ℕ, ◌<◌, ◌≤◌, true, List, length, Some, None, slice_get, All}
+use Rattle.std.specs.Prelude.{◌≡◌, ◌≢◌, ℕ, ◌<◌, ◌≤◌, true, List, length, Option, Some, None, IfSome, slice_get, All}
 use Rattle.std.specs.List.{AllPairs}
 use Rattle.cmd_types.specs.declared.limits.TheConstants.{GREATEST_NUMBER}
 use Rattle.mon_inventory.specs.declared.limits.TheConstants.{MOST_CONTACTS, MOST_OBJECTS, MOST_ESCALATIONS}
 use Rattle.mon_inventory.specs.declared.records.ObjectSpec.{ObjectSpec}
 use Rattle.mon_inventory.specs.declared.records.Escalation.{Escalation}
+use Rattle.mon_inventory.specs.declared.records.Directives.{Directives}
 use Rattle.mon_inventory.specs.Lists.{StandsAt, AtMostOne}
 use Rattle.mon_inventory.specs.Line.{is_option}
 use Rattle.mon_inventory.specs.Lookups.{IsContactNamed, IsHostNamed, IsServiceNamed, IsOptionNamed}
@@ -34,6 +35,14 @@ pub record IsEscalation (contact_count object_count : ℕ) (e : Escalation) : Ty
   pub interval_small : e.interval ≤ GREATEST_NUMBER
   pub contacts_stand : AreContacts contact_count e.contacts
 
+-- where a line sets them, seconds of at least 1
+abbrev pub AreSeconds : Option ℕ → Type 0
+AreSeconds seconds = IfSome seconds (λ n. (1 ≤ n) × (n ≤ GREATEST_NUMBER))
+
+-- the directives of an object
+abbrev pub AreDirectives : Directives → Type 0
+AreDirectives d = AreSeconds d.first_notification_delay
+
 -- no limit is passed, each name is defined once, each option is set once and is known, and each record refers to
 -- records that are there
 pub record IsInventory (k : Configuration) : Type 0 where
@@ -47,3 +56,7 @@ pub record IsInventory (k : Configuration) : Type 0 where
   pub options_known : All (λ o. is_option o.name ≡ true) k.options
   pub objects : (index : ℕ) (o : ObjectSpec) → slice_get k.objects index ≡ Some o → IsObject (length k.contacts) k.objects index o
   pub escalations : All (IsEscalation (length k.contacts) (length k.objects)) k.escalations
+  -- each object has its own
+  pub directives_many : length k.directives ≡ length k.objects
+  pub directives : All AreDirectives k.directives
+  pub settle : AreSeconds k.settle

@@ -3,14 +3,14 @@ use Rattle.std.specs.Prelude.{◌≡◌, ℕ, ◌≤◌, [], ◌∷◌, ◌++◌
 use Rattle.mon_inventory.specs.declared.records.ObjectSpec.{ObjectSpec}
 use Rattle.mon_inventory.specs.declared.index.Index.{Index}
 use Rattle.mon_inventory.specs.declared.limits.TheConstants.{MOST_CONTACTS, MOST_OBJECTS, MOST_ESCALATIONS}
-use Rattle.mon_inventory.specs.Configuration.{Configuration}
+use Rattle.mon_inventory.specs.Configuration.{Configuration, no_directives}
 use Rattle.mon_inventory.specs.Facts.{IsInventory}
 use Rattle.mon_inventory.specs.Lookups.{contact_of, host_of, services_of, escalations_of}
 use Rattle.mon_inventory.specs.Names.{Tells, TellServices}
 
 -- the records that an index holds
 abbrev pub configuration : Index → Configuration
-configuration a = record { contacts = a.contacts.items; objects = a.objects.items; escalations = a.escalations.items; options = a.options.items }
+configuration a = record { contacts = a.contacts.items; objects = a.objects.items; escalations = a.escalations.items; options = a.options.items; directives = a.directives.items; settle = a.settle }
 
 -- the maps and lists of the index tell what its records say
 pub record IsIndexed (a : Index) : Type 0 where
@@ -22,6 +22,7 @@ pub record IsIndexed (a : Index) : Type 0 where
   pub services_many : length a.services.items ≡ length a.objects.items
   pub escalations_told : (object : ℕ) → get_or a.object_escalations.items object [] ≡ escalations_of a.escalations.items object
   pub escalations_many : length a.object_escalations.items ≡ length a.objects.items
+  pub directives_many : length a.directives.items ≡ length a.objects.items
   pub few_contacts : length a.contacts.items ≤ MOST_CONTACTS
   pub few_objects : length a.objects.items ≤ MOST_OBJECTS
   pub few_escalations : length a.escalations.items ≤ MOST_ESCALATIONS
@@ -33,7 +34,7 @@ pub record IsWhole (a : Index) : Type 0 where
 
 -- ---- of private contracts alone
 
--- one more object, without services and escalations
+-- one more object, without services, escalations and directives
 pub record AddsObject (a b : Index) (o : ObjectSpec) : Type 0 where
   pub objects : b.objects.items ≡ a.objects.items ++ o ∷ []
   pub service_names : b.service_names.items ≡ a.service_names.items ++ [] ∷ []
@@ -44,3 +45,5 @@ pub record AddsObject (a b : Index) (o : ObjectSpec) : Type 0 where
   pub contact_names : b.contact_names ≡ a.contact_names
   pub escalations : b.escalations ≡ a.escalations
   pub options : b.options ≡ a.options
+  pub directives : b.directives.items ≡ a.directives.items ++ no_directives ∷ []
+  pub settle : b.settle ≡ a.settle

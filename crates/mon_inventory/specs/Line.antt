@@ -21,14 +21,26 @@ pub data Form : Type 0 where
   ServiceForm : (host name max interval options contacts : List ℕ) → Form
   EscalationForm : (host service first last interval options contacts : List ℕ) → Form
   OptionForm : (name value : List ℕ) → Form
+  SettleForm : (seconds : List ℕ) → Form
+  DelayForm : (host service seconds : List ℕ) → Form
+  VolatileForm : (host service : List ℕ) → Form
   NoForm : Form
+
+-- the kinds that have as many fields as another kind
+abbrev pub delay_form : (word host service seconds : List ℕ) → Form
+delay_form word host service seconds = if bytes_eq word (codes "delay") then DelayForm host service seconds else NoForm
+
+abbrev pub volatile_form : (word host service : List ℕ) → Form
+volatile_form word host service = if bytes_eq word (codes "volatile") then VolatileForm host service else NoForm
 
 -- the kind by the first field and how many fields there are
 abbrev pub form_of : List (List ℕ) → Form
+form_of (word ∷ (seconds ∷ [])) =
+    if bytes_eq word (codes "settle") then SettleForm seconds else NoForm
 form_of (word ∷ (name ∷ (value ∷ []))) =
-    if bytes_eq word (codes "option") then OptionForm name value else NoForm
+    if bytes_eq word (codes "option") then OptionForm name value else volatile_form word name value
 form_of (word ∷ (name ∷ (hosts ∷ (services ∷ [])))) =
-    if bytes_eq word (codes "contact") then ContactForm name hosts services else NoForm
+    if bytes_eq word (codes "contact") then ContactForm name hosts services else delay_form word name hosts services
 form_of (word ∷ (name ∷ (max ∷ (interval ∷ (options ∷ (contacts ∷ [])))))) =
     if bytes_eq word (codes "host") then HostForm name max interval options contacts else NoForm
 form_of (word ∷ (host ∷ (name ∷ (max ∷ (interval ∷ (options ∷ (contacts ∷ []))))))) =
@@ -56,8 +68,8 @@ abbrev pub value_of : List ℕ → ℕ
 value_of text = digits_value 10 text
 
 -- a number of at least 1
-abbrev pub is_max : List ℕ → Bool
-is_max text = is_number text && nat_le 1 (value_of text)
+abbrev pub is_positive : List ℕ → Bool
+is_positive text = is_number text && nat_le 1 (value_of text)
 
 -- the field is 1, which is on
 abbrev pub is_on : List ℕ → Bool
@@ -109,9 +121,13 @@ escalation_options service = if is_empty service then escalated_host_options els
 abbrev pub passive_host_checks_are_soft : List ℕ
 passive_host_checks_are_soft = codes "passive_host_checks_are_soft"
 
+-- the name of the option by which a problem is told with any entry
+abbrev pub tell_by_clock : List ℕ
+tell_by_clock = codes "tell_by_clock"
+
 -- the options that are known
 abbrev pub is_option : List ℕ → Bool
-is_option name = bytes_eq name passive_host_checks_are_soft
+is_option name = bytes_eq name passive_host_checks_are_soft || bytes_eq name tell_by_clock
 
 -- no known form, an empty name, a comma in a contact's name, an empty item of a comma list, or no known option
 abbrev pub has_bad_form : Form → Bool
@@ -120,14 +136,19 @@ has_bad_form (HostForm name max interval options contacts) = is_empty name || ha
 has_bad_form (ServiceForm host name max interval options contacts) = is_empty host || is_empty name || has_empty_item options || has_empty_item contacts
 has_bad_form (EscalationForm host service first last interval options contacts) = is_empty host || has_empty_item options || has_empty_item contacts
 has_bad_form (OptionForm name value) = not (is_option name)
+has_bad_form (SettleForm seconds) = false
+has_bad_form (DelayForm host service seconds) = is_empty host
+has_bad_form (VolatileForm host service) = is_empty host || is_empty service
 has_bad_form NoForm = true
 
 -- a field that has to be a number is none, or is out of its range
 abbrev pub has_bad_number : Form → Bool
-has_bad_number (HostForm name max interval options contacts) = not (is_max max) || not (is_number interval)
-has_bad_number (ServiceForm host name max interval options contacts) = not (is_max max) || not (is_number interval)
+has_bad_number (HostForm name max interval options contacts) = not (is_positive max) || not (is_number interval)
+has_bad_number (ServiceForm host name max interval options contacts) = not (is_positive max) || not (is_number interval)
 has_bad_number (EscalationForm host service first last interval options contacts) = not (is_number first) || not (is_number last) || not (is_number interval)
 has_bad_number (OptionForm name value) = not (is_switch value)
+has_bad_number (SettleForm seconds) = not (is_positive seconds)
+has_bad_number (DelayForm host service seconds) = not (is_positive seconds)
 has_bad_number _ = false
 
 -- an option letter that this kind of line does not have

@@ -1,5 +1,5 @@
 -- A form as the code holds it, without where its texts lie in memory, and a form that has no fault.
-use Rattle.std.specs.Prelude.{◌≡◌, ℕ, false, ◌||◌, codes, List, Option, Some, None, if◌then◌else◌}
+use Rattle.std.specs.Prelude.{◌≡◌, ℕ, false, ◌||◌, codes, List, Option, Some, None}
 use Rattle.std.specs.List.{list_any}
 use Rattle.std.specs.Str.{bytes_eq}
 use Rattle.mon_inventory.specs.declared.letters.Letters.{Letters}
@@ -10,12 +10,15 @@ use Rattle.mon_inventory.specs.declared.form.HostForm.{HostForm}
 use Rattle.mon_inventory.specs.declared.form.ServiceForm.{ServiceForm}
 use Rattle.mon_inventory.specs.declared.form.EscalationForm.{EscalationForm}
 use Rattle.mon_inventory.specs.declared.form.OptionForm.{OptionForm}
+use Rattle.mon_inventory.specs.declared.form.SettleForm.{SettleForm}
+use Rattle.mon_inventory.specs.declared.form.DelayForm.{DelayForm}
+use Rattle.mon_inventory.specs.declared.form.VolatileForm.{VolatileForm}
 use Rattle.mon_inventory.specs.declared.form.Form.{Form}
 use Rattle.mon_inventory.specs.declared.form.Form.TheVariants as held
 use Rattle.mon_inventory.specs.declared.outer_faults.KnownNames.{KnownNames}
 use Rattle.mon_inventory.specs.Line as line
 use Rattle.mon_inventory.specs.Lookups.{contact_of, host_of, service_of}
-use Rattle.mon_inventory.specs.Configuration.{Configuration, is_duplicate, names_unknown_host, names_unknown_service, names_unknown_contact, is_too_many}
+use Rattle.mon_inventory.specs.Configuration.{Configuration, object_of, is_duplicate, names_unknown_host, names_unknown_service, names_unknown_contact, is_too_many}
 
 -- ---- of private contracts alone
 
@@ -35,6 +38,15 @@ seen_escalation f = line.EscalationForm f.host.now f.service.now f.first.now f.l
 abbrev pub seen_option : OptionForm → line.Form
 seen_option f = line.OptionForm f.name.now f.value.now
 
+abbrev pub seen_settle : SettleForm → line.Form
+seen_settle f = line.SettleForm f.seconds.now
+
+abbrev pub seen_delay : DelayForm → line.Form
+seen_delay f = line.DelayForm f.host.now f.service.now f.seconds.now
+
+abbrev pub seen_volatile : VolatileForm → line.Form
+seen_volatile f = line.VolatileForm f.host.now f.service.now
+
 -- the form that the code's form stands for
 abbrev pub seen : Form → line.Form
 seen (held.Contact f) = seen_contact f
@@ -42,6 +54,9 @@ seen (held.Host f) = seen_host f
 seen (held.Service f) = seen_service f
 seen (held.Escalation f) = seen_escalation f
 seen (held.Option f) = seen_option f
+seen (held.Settle f) = seen_settle f
+seen (held.Delay f) = seen_delay f
+seen (held.Volatile f) = seen_volatile f
 
 -- the form that the code found, or none
 abbrev pub seen_or_none : Option Form → line.Form
@@ -59,14 +74,19 @@ pub record IsFine (k : Configuration) (f : line.Form) : Type 0 where
   pub contacts_known : names_unknown_contact k f ≡ false
   pub few : is_too_many k f ≡ false
 
+-- the object of these names, and its host
+abbrev pub object_found : Configuration → (host service : List ℕ) → KnownNames
+object_found k host service = record { named = object_of k host service; host = host_of k.objects host }
+
 -- the indices that earlier lines give to the names of the form: that of the contact, host or service itself, or of
--- an escalation's object; and that of the host
+-- the object that the line says something of; and that of the host
 abbrev pub found_by : Configuration → line.Form → KnownNames
 found_by k (line.ContactForm name hosts services) = record { named = contact_of k.contacts name; host = None }
 found_by k (line.HostForm name max interval options contacts) = record { named = host_of k.objects name; host = None }
 found_by k (line.ServiceForm host name max interval options contacts) = record { named = service_of k.objects host name; host = host_of k.objects host }
-found_by k (line.EscalationForm host service first last interval options contacts) =
-    record { named = if line.is_empty service then host_of k.objects host else service_of k.objects host service; host = host_of k.objects host }
+found_by k (line.EscalationForm host service first last interval options contacts) = object_found k host service
+found_by k (line.DelayForm host service seconds) = object_found k host service
+found_by k (line.VolatileForm host service) = object_found k host service
 found_by k _ = record { named = None; host = None }
 
 -- ---- letters

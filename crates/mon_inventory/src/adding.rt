@@ -1,22 +1,25 @@
-//! Adds to an index the record that a line without a fault defines. The only error is that memory ran out
-//! (`Cause::Memory`): a call that changes the index may then leave a part of the record in it, and the caller drops the
-//! index.
+//! Adds to an index the record that a line without a fault defines, or sets what it sets. The only error is that memory
+//! ran out (`Cause::Memory`): a call that changes the index may then leave a part of the record in it, and the caller
+//! drops the index.
 ghost use Rattle.std.specs.Prelude.{◌≡◌, ◌≢◌, [], ◌∷◌, ◌++◌, None, Some, get_or, set, ◌<◌, IfOk, IfErr, OnOk, length, unwrap_or};
 ghost use Rattle.mon_inventory.specs.Configuration.{contacts_named, object_named, contact_made, host_made, service_made, escalation_made, with_form};
 ghost use Rattle.mon_inventory.specs.Names.{named};
 ghost use Rattle.mon_inventory.specs.Index.{configuration, AddsObject, IsIndexed};
-ghost use Rattle.mon_inventory.specs.Seen.{seen_contact, seen_host, seen_service, seen_escalation, seen_option, seen, found_by, IsFine};
+ghost use Rattle.mon_inventory.specs.Seen.{seen_contact, seen_host, seen_service, seen_escalation, seen_option, seen_settle, seen_delay, seen_volatile, seen, found_by, IsFine};
 ghost use Rattle.mon_inventory.specs.Lookups.{host_of};
 
 use crate::fault::Cause;
 use crate::fields::{is_on, value_of};
-use crate::form::{ContactForm, EscalationForm, Form, HostForm, OptionForm, ServiceForm};
+use crate::form::{
+    ContactForm, DelayForm, EscalationForm, Form, HostForm, OptionForm, ServiceForm, SettleForm,
+    VolatileForm,
+};
 use crate::index::Index;
 use crate::items::first_item;
 use crate::letters::letters_named;
 use crate::names::NameIndex;
 use crate::outer_faults::KnownNames;
-use crate::records::{ContactSpec, Escalation, ObjectSpec, OptionSpec};
+use crate::records::{ContactSpec, Escalation, NO_DIRECTIVES, ObjectSpec, OptionSpec};
 use cmd_types::{Numbers, Text, cut};
 use indexmap::IndexSet;
 use std::alloc::Global;
@@ -181,7 +184,7 @@ impl Index {
         })
     }
 
-    /// Appends an object, with no services and no escalations yet. The maps from names are unchanged.
+    /// Appends an object, with no services, escalations and directives yet. The maps from names are unchanged.
     fn add_object(&mut self, alloc: Global, object: ObjectSpec) -> Result<(), Cause>
         ensures ok { OnOk result (AddsObject self.old self.new object) }
         ensures err { IfErr result (λ e. e ≡ Cause.Memory) }
@@ -190,6 +193,7 @@ impl Index {
         self.service_names.push(NameIndex::new(alloc))?;
         self.services.push(Numbers::new(Vec::new(alloc)))?;
         self.object_escalations.push(Numbers::new(Vec::new(alloc)))?;
+        self.directives.push(NO_DIRECTIVES)?;
         Ok(())
     }
 
@@ -275,8 +279,42 @@ impl Index {
         Ok(())
     }
 
-    /// Adds the record that a line without a fault defines. `found` is what [`look_up`](Index::look_up) returns for
-    /// this line. If memory runs out, a part of the record may be added, and the caller drops the index.
+    /// Sets the seconds to settle.
+    fn add_settle(&mut self, settle: &SettleForm<'_>)
+        requires indexed { IsIndexed self.old }
+        requires fine { IsFine (configuration self.old) (seen_settle settle.now) }
+        ensures added { configuration self.new ≡ with_form (configuration self.old) (seen_settle settle.now) }
+        ensures indexed { IsIndexed self.new }
+    {
+        self.settle = Some(value_of(settle.seconds));
+    }
+
+    /// Sets the first notification delay of the object at the index `object`.
+    fn add_delay(&mut self, delay: &DelayForm<'_>, object: u16)
+        requires indexed { IsIndexed self.old }
+        requires fine { IsFine (configuration self.old) (seen_delay delay.now) }
+        requires object { object ≡ object_named (configuration self.old) delay.now.host.now delay.now.service.now }
+        ensures added { configuration self.new ≡ with_form (configuration self.old) (seen_delay delay.now) }
+        ensures indexed { IsIndexed self.new }
+    {
+        let seconds = value_of(delay.seconds);
+        self.directives[object as usize].first_notification_delay = Some(seconds);
+    }
+
+    /// Makes the service at the index `object` volatile.
+    fn add_volatile(&mut self, volatile: &VolatileForm<'_>, object: u16)
+        requires indexed { IsIndexed self.old }
+        requires fine { IsFine (configuration self.old) (seen_volatile volatile.now) }
+        requires object { object ≡ object_named (configuration self.old) volatile.now.host.now volatile.now.service.now }
+        ensures added { configuration self.new ≡ with_form (configuration self.old) (seen_volatile volatile.now) }
+        ensures indexed { IsIndexed self.new }
+    {
+        self.directives[object as usize].is_volatile = true;
+    }
+
+    /// Adds the record that a line without a fault defines, or sets what it sets. `found` is what
+    /// [`look_up`](Index::look_up) returns for this line. If memory runs out, a part of the record may be added, and
+    /// the caller drops the index.
     pub fn add(&mut self, alloc: Global, form: &Form<'_>, found: KnownNames) -> Result<(), Cause>
         requires indexed { IsIndexed self.old }
         requires fine { IsFine (configuration self.old) (seen form.now) }
@@ -285,7 +323,7 @@ impl Index {
         ensures indexed { OnOk result (IsIndexed self.new) }
         ensures err { IfErr result (λ e. e ≡ Cause.Memory) }
     {
-        // Every name in a line without a fault was found, so that neither `unwrap_or` returns its 0.
+        // Every name in a line without a fault was found, so that no `unwrap_or` returns its 0.
         match form {
             Form::Contact(contact) => self.add_contact(alloc, contact),
             Form::Host(host) => self.add_host(alloc, host),
@@ -294,6 +332,18 @@ impl Index {
                 self.add_escalation(alloc, escalation, found.named.unwrap_or(0))
             }
             Form::Option(option) => self.add_option(alloc, option),
+            Form::Settle(settle) => {
+                self.add_settle(settle);
+                Ok(())
+            }
+            Form::Delay(delay) => {
+                self.add_delay(delay, found.named.unwrap_or(0));
+                Ok(())
+            }
+            Form::Volatile(volatile) => {
+                self.add_volatile(volatile, found.named.unwrap_or(0));
+                Ok(())
+            }
         }
     }
 }

@@ -17,14 +17,15 @@ pub enum Cause {
     #[error("the line has no known form")]
     BadForm,
     /// A field that has to be a number is not 1 to [`MOST_DIGITS`](cmd_types::MOST_DIGITS) digits or is above
-    /// [`GREATEST_NUMBER`](cmd_types::GREATEST_NUMBER), a `max_check_attempts` is 0, or an option's value is not `0` or
-    /// `1`.
+    /// [`GREATEST_NUMBER`](cmd_types::GREATEST_NUMBER), a `max_check_attempts`, a delay or the seconds to settle are 0,
+    /// or an option's value is not `0` or `1`.
     #[error("a field is no such number")]
     BadNumber,
     /// A letter that this kind of line does not have.
     #[error("an option is not known here")]
     BadOption,
-    /// An earlier line defines the same contact, the same host or the same service of this host, or sets the option.
+    /// An earlier line defines the same contact, the same host or the same service of this host, or sets the option,
+    /// the seconds to settle or the same directive of the object.
     #[error("the name stands already")]
     Duplicate,
     /// No earlier line defines the host that the line names.

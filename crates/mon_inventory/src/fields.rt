@@ -2,7 +2,7 @@
 //! memory is taken.
 ghost use Rattle.std.specs.Prelude.{◌≡◌, true};
 ghost use Rattle.cmd_types.specs.Digits.{is_number};
-ghost use Rattle.mon_inventory.specs.Line.{value_of, is_max, is_on, is_switch};
+ghost use Rattle.mon_inventory.specs.Line.{value_of, is_positive, is_on, is_switch};
 
 use cmd_types::number_of;
 
@@ -14,10 +14,10 @@ pub fn is_number(text: &[u8]) -> bool
     number_of(text).is_some()
 }
 
-/// Whether a field is a number of at least 1, as a `max_check_attempts` has to be.
+/// Whether a field is a number of at least 1, as a `max_check_attempts` and a first notification delay have to be.
 #[tactic(auto, unfolding(cmd_types::specs::Digits::number_of))]
-pub fn is_max(text: &[u8]) -> bool
-    ensures { result ≡ is_max text.now }
+pub fn is_positive(text: &[u8]) -> bool
+    ensures { result ≡ is_positive text.now }
 {
     match number_of(text) {
         Some(number) => number >= 1,

@@ -57,6 +57,28 @@ pub struct OptionForm<'a> {
     pub value: &'a [u8],
 }
 
+/// The field of the line that sets the seconds to settle; it is not tested.
+#[derive(Clone, Copy)]
+pub struct SettleForm<'a> {
+    pub seconds: &'a [u8],
+}
+
+/// The fields of a line that sets a first notification delay, in the order of the line; none of them is tested.
+/// `service` is empty for the delay of a host.
+#[derive(Clone, Copy)]
+pub struct DelayForm<'a> {
+    pub host: &'a [u8],
+    pub service: &'a [u8],
+    pub seconds: &'a [u8],
+}
+
+/// The fields of a line that makes a service volatile, in the order of the line; none of them is tested.
+#[derive(Clone, Copy)]
+pub struct VolatileForm<'a> {
+    pub host: &'a [u8],
+    pub service: &'a [u8],
+}
+
 /// The kind of a line, with its fields as the line has them.
 #[derive(Clone, Copy)]
 pub enum Form<'a> {
@@ -65,6 +87,9 @@ pub enum Form<'a> {
     Service(ServiceForm<'a>),
     Escalation(EscalationForm<'a>),
     Option(OptionForm<'a>),
+    Settle(SettleForm<'a>),
+    Delay(DelayForm<'a>),
+    Volatile(VolatileForm<'a>),
 }
 
 /// The fields of a line that are still to be cut out, from left to right. `rest` is their text, and `None` after the
@@ -169,6 +194,51 @@ fn option_form(mut fields: LineFields<'_>) -> Option<Form<'_>>
     }
 }
 
+/// The form of the line that sets the seconds to settle, from the fields after its first word; `None` unless there is
+/// exactly one.
+fn settle_form(mut fields: LineFields<'_>) -> Option<Form<'_>>
+    ensures { seen_or_none result ≡ form_of (codes "settle" ∷ parts_left 59 (option_copied fields.entry.rest)) }
+{
+    let form = SettleForm {
+        seconds: fields.field()?,
+    };
+    match fields.field() {
+        None => Some(Form::Settle(form)),
+        Some(_) => None,
+    }
+}
+
+/// The form of a line that sets a first notification delay, from the fields after its first word; `None` unless there
+/// are exactly three.
+fn delay_form(mut fields: LineFields<'_>) -> Option<Form<'_>>
+    ensures { seen_or_none result ≡ form_of (codes "delay" ∷ parts_left 59 (option_copied fields.entry.rest)) }
+{
+    let form = DelayForm {
+        host: fields.field()?,
+        service: fields.field()?,
+        seconds: fields.field()?,
+    };
+    match fields.field() {
+        None => Some(Form::Delay(form)),
+        Some(_) => None,
+    }
+}
+
+/// The form of a line that makes a service volatile, from the fields after its first word; `None` unless there are
+/// exactly two.
+fn volatile_form(mut fields: LineFields<'_>) -> Option<Form<'_>>
+    ensures { seen_or_none result ≡ form_of (codes "volatile" ∷ parts_left 59 (option_copied fields.entry.rest)) }
+{
+    let form = VolatileForm {
+        host: fields.field()?,
+        service: fields.field()?,
+    };
+    match fields.field() {
+        None => Some(Form::Volatile(form)),
+        Some(_) => None,
+    }
+}
+
 /// The form of a line with this first word and these other fields; `None` where no kind of line has this word with this
 /// number of fields.
 fn form_of_word<'a>(word: &[u8], fields: LineFields<'a>) -> Option<Form<'a>>
@@ -184,6 +254,12 @@ fn form_of_word<'a>(word: &[u8], fields: LineFields<'a>) -> Option<Form<'a>>
         escalation_form(fields)
     } else if word == b"option".as_slice() {
         option_form(fields)
+    } else if word == b"settle".as_slice() {
+        settle_form(fields)
+    } else if word == b"delay".as_slice() {
+        delay_form(fields)
+    } else if word == b"volatile".as_slice() {
+        volatile_form(fields)
     } else {
         None
     }

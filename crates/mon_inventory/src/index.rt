@@ -2,11 +2,11 @@
 //! object. A look-up changes nothing and takes no memory; only the look-up of an option walks over a list.
 ghost use Rattle.std.specs.Prelude.{◌≡◌, ◌<◌, IfSome, length};
 ghost use Rattle.mon_inventory.specs.Lookups.{contact_of, host_of, service_at, service_by, service_of, services_of, escalations_of};
-ghost use Rattle.mon_inventory.specs.Configuration.{nothing, said_of};
+ghost use Rattle.mon_inventory.specs.Configuration.{nothing, said_of, directives_at};
 ghost use Rattle.mon_inventory.specs.Index.{configuration, IsIndexed};
 
 use crate::names::NameIndex;
-use crate::records::{ContactSpec, Escalation, ObjectSpec, OptionSpec};
+use crate::records::{ContactSpec, Directives, Escalation, NO_DIRECTIVES, ObjectSpec, OptionSpec};
 use cmd_types::Numbers;
 use std::alloc::Global;
 
@@ -25,6 +25,10 @@ pub struct Index {
     /// For each object, the indices of its escalations, ascending.
     pub object_escalations: Vec<Numbers>,
     pub options: Vec<OptionSpec>,
+    /// For each object, its directives.
+    pub directives: Vec<Directives>,
+    /// The seconds to settle; `None` where no line sets them.
+    pub settle: Option<u64>,
 }
 
 // Written by hand, so that each exit of a caller drops an index by one call, and not field by field.
@@ -40,6 +44,8 @@ impl Drop for Index {
             escalations: _,
             object_escalations: _,
             options: _,
+            directives: _,
+            settle: _,
         } = self;
     }
 }
@@ -60,6 +66,8 @@ impl Index {
             escalations: Vec::new(alloc),
             object_escalations: Vec::new(alloc),
             options: Vec::new(alloc),
+            directives: Vec::new(alloc),
+            settle: None,
         }
     }
 
@@ -129,6 +137,19 @@ impl Index {
             }
         }
         None
+    }
+
+    /// The directives of an object that was looked up; [`NO_DIRECTIVES`] where it was not found.
+    pub fn directives_at(&self, object: Option<u16>) -> Directives
+        ensures { result ≡ directives_at (configuration self.now) object }
+    {
+        let Some(object) = object else {
+            return NO_DIRECTIVES;
+        };
+        match self.directives.get(object as usize) {
+            Some(directives) => *directives,
+            None => NO_DIRECTIVES,
+        }
     }
 
     /// The indices of the escalations of the object at the index `object`, ascending. Requires that `object` is below

@@ -5,8 +5,8 @@ ghost use Rattle.std.specs.List.{filter, filter_map};
 ghost use Rattle.mon_inventory.specs.Lists.{StandsAt, AreExactly};
 ghost use Rattle.cmd_types.specs.TextLines.{split_lines};
 ghost use Rattle.mon_inventory.specs.Lookups.{contact_of, host_of, service_of, services_of, escalations_of, IsContactNamed, IsOptionOn, IsHostNamed, IsServiceNamed, IsServiceOf, IsEscalationOf, is_escalation_of};
-ghost use Rattle.mon_inventory.specs.Configuration.{inventory, option_is_on, passive_hosts_soft};
-ghost use Rattle.mon_inventory.specs.Facts.{IsInventory, IsObject};
+ghost use Rattle.mon_inventory.specs.Configuration.{directives_at, inventory, option_is_on, passive_hosts_soft, tells_by_clock};
+ghost use Rattle.mon_inventory.specs.Facts.{IsInventory, IsObject, AreSeconds, AreDirectives};
 ghost use Rattle.mon_inventory.specs.Order.{AreInOrder, GrowsTo};
 ghost use Rattle.mon_inventory.specs.Read.{HasNoFault, IsFirstFault, Reads};
 
@@ -14,7 +14,7 @@ use crate::fault::{Cause, InventoryFault};
 use crate::guesses::Guesses;
 use crate::index::Index;
 use crate::parse::index_of;
-use crate::records::{ContactSpec, Escalation, ObjectSpec};
+use crate::records::{ContactSpec, Directives, Escalation, ObjectSpec};
 use std::alloc::Global;
 use std::marker::Model;
 
@@ -81,8 +81,9 @@ fn is_service(object: &ObjectSpec, host: &[u8], name: &[u8]) -> bool
 
 impl Inventory {
     /// Reads an inventory from its text, or returns the first line with a fault and the first cause of that fault
-    /// (profile). Each line defines a contact, a host, a service or an escalation, and refers to earlier lines only, or
-    /// sets an option that no earlier line sets. Empty lines, and carriage returns at the end of a line, are skipped.
+    /// (profile). Each line defines a contact, a host, a service or an escalation, or sets an option, the seconds to
+    /// settle or a directive of a host or service. It refers to earlier lines only, and sets nothing that an earlier
+    /// line sets. Empty lines, and carriage returns at the end of a line, are skipped.
     ///
     /// ```text
     /// contact;NAME;HOST OPTIONS;SERVICE OPTIONS
@@ -90,11 +91,17 @@ impl Inventory {
     /// service;HOST;DESCRIPTION;MAX;INTERVAL;OPTIONS;CONTACTS
     /// escalation;HOST;DESCRIPTION or empty;FIRST;LAST;INTERVAL;OPTIONS;CONTACTS
     /// option;passive_host_checks_are_soft;0 or 1
+    /// option;tell_by_clock;0 or 1
+    /// settle;SECONDS
+    /// delay;HOST;DESCRIPTION or empty;SECONDS
+    /// volatile;HOST;DESCRIPTION
     /// ```
     ///
     /// OPTIONS are letters and CONTACTS are names, each joined by commas, or nothing. The letters are d, u, r, s for a
     /// host and w, u, c, r, s for a service; an escalation has no s. MAX is at least 1. INTERVAL is in seconds, 0 for
-    /// no further notice. FIRST and LAST are notification numbers; a LAST of 0 is no bound.
+    /// no further notice. FIRST and LAST are notification numbers; a LAST of 0 is no bound. SECONDS is at least 1: in
+    /// `delay`, the first notification delay of the object; in `settle`, how long results are awaited before the first
+    /// notice of an object once what stands above it came back. Each bad result of a `volatile` service is notified.
     ///
     /// With [`Cause::Memory`](crate::Cause::Memory) the line of the fault is not empty, and neither this line nor a
     /// line before it has another fault. The time is linear in the length of the text.
@@ -118,6 +125,14 @@ impl Inventory {
         ensures { result ≡ passive_hosts_soft self.now }
     {
         self.is_on(b"passive_host_checks_are_soft".as_slice())
+    }
+
+    /// Whether a problem is notified with any entry, as soon as nothing holds its notice back (`tell_by_clock`,
+    /// profile); false where no line sets the option, and then only a check result notifies a problem.
+    pub fn tells_by_clock(&self) -> bool
+        ensures { result ≡ tells_by_clock self.now }
+    {
+        self.is_on(b"tell_by_clock".as_slice())
     }
 
     /// Whether the option of this name is on; false where no line sets it or there is no such option (profile). Takes
@@ -223,6 +238,25 @@ impl Inventory {
         ensures sound { IsObject (length self.now.contacts) self.now.objects object result.now }
     {
         &self.index.objects[object as usize]
+    }
+
+    /// The directives of the object at this index. Requires that the index is below `object_count()`.
+    pub fn directives(&self, object: u16) -> Directives
+        requires { object < length self.now.objects }
+        ensures value { slice_get self.now.directives object ≡ Some result }
+        ensures at { result ≡ directives_at self.now (Some object) }
+        ensures sound { AreDirectives result }
+    {
+        self.index.directives[object as usize]
+    }
+
+    /// The seconds to settle, at least 1: how long results are awaited before the first notice of an object once what
+    /// stands above it came back (`settle`, profile); `None` where no line sets them.
+    pub fn settle(&self) -> Option<u64>
+        ensures value { result ≡ self.now.settle }
+        ensures sound { AreSeconds result }
+    {
+        self.index.settle
     }
 
     /// The contact at this index. Requires that the index is below `contact_count()`.

@@ -4,7 +4,7 @@ ghost use Rattle.std.specs.Prelude.{◌≡◌};
 ghost use Rattle.std.specs.List.{find};
 ghost use Rattle.mon_inventory.specs.Configuration.{Configuration, is_duplicate, names_unknown_host, names_unknown_service, names_unknown_contact, has_unknown_contact, is_too_many, has, causes};
 ghost use Rattle.mon_inventory.specs.Index.{configuration, IsIndexed};
-ghost use Rattle.mon_inventory.specs.Seen.{seen, found_by};
+ghost use Rattle.mon_inventory.specs.Seen.{seen, found_by, object_found};
 
 use crate::fault::Cause;
 use crate::form::Form;
@@ -16,9 +16,10 @@ use cmd_types::cut;
 /// The indices of what earlier lines define under the names in a line; `None` where no earlier line defines the name.
 #[derive(Clone, Copy)]
 pub struct KnownNames {
-    /// The contact, host or service with the line's own name; for an escalation, the object whose notices escalate.
+    /// The contact, host or service with the line's own name; for an escalation, a delay or a volatile service, the
+    /// object that the line names.
     pub named: Option<u16>,
-    /// The host of a service or of an escalation.
+    /// The host of that service or object.
     pub host: Option<u16>,
 }
 
@@ -28,8 +29,10 @@ impl KnownNames {
         ensures { (k : Configuration) → self ≡ found_by k (seen form.now) → result ≡ names_unknown_host k (seen form.now) }
     {
         match form {
-            Form::Service(_) | Form::Escalation(_) => self.host.is_none(),
-            Form::Contact(_) | Form::Host(_) | Form::Option(_) => false,
+            Form::Service(_) | Form::Escalation(_) | Form::Delay(_) | Form::Volatile(_) => {
+                self.host.is_none()
+            }
+            Form::Contact(_) | Form::Host(_) | Form::Option(_) | Form::Settle(_) => false,
         }
     }
 
@@ -41,12 +44,31 @@ impl KnownNames {
             Form::Escalation(escalation) => {
                 !escalation.service.is_empty() && self.named.is_none()
             }
-            Form::Contact(_) | Form::Host(_) | Form::Service(_) | Form::Option(_) => false,
+            Form::Delay(delay) => !delay.service.is_empty() && self.named.is_none(),
+            Form::Volatile(volatile) => !volatile.service.is_empty() && self.named.is_none(),
+            Form::Contact(_)
+            | Form::Host(_)
+            | Form::Service(_)
+            | Form::Option(_)
+            | Form::Settle(_) => false,
         }
     }
 }
 
 impl Index {
+    /// Looks up the object of these names, and its host; `service` is empty for the host itself.
+    fn look_up_object(&self, host: &[u8], service: &[u8]) -> KnownNames
+        requires { IsIndexed self.now }
+        ensures { result ≡ object_found (configuration self.now) host.now service.now }
+    {
+        let host = self.host_of(host);
+        if service.is_empty() {
+            return KnownNames { named: host, host };
+        }
+        let named = self.service_by(host, service);
+        KnownNames { named, host }
+    }
+
     /// Looks up the names in a line, each name once, and returns their indices.
     pub fn look_up(&self, form: &Form<'_>) -> KnownNames
         requires { IsIndexed self.now }
@@ -67,22 +89,19 @@ impl Index {
                 KnownNames { named, host }
             }
             Form::Escalation(escalation) => {
-                let host = self.host_of(escalation.host);
-                if escalation.service.is_empty() {
-                    return KnownNames { named: host, host };
-                }
-                let named = self.service_by(host, escalation.service);
-                KnownNames { named, host }
+                self.look_up_object(escalation.host, escalation.service)
             }
-            Form::Option(_) => KnownNames {
+            Form::Delay(delay) => self.look_up_object(delay.host, delay.service),
+            Form::Volatile(volatile) => self.look_up_object(volatile.host, volatile.service),
+            Form::Option(_) | Form::Settle(_) => KnownNames {
                 named: None,
                 host: None,
             },
         }
     }
 
-    /// Whether an earlier line defines the same contact, host or service, or sets the same option. An escalation is
-    /// never a duplicate.
+    /// Whether an earlier line defines the same contact, host or service, or sets the same option, the seconds to
+    /// settle or the same directive of the object. An escalation is never a duplicate.
     fn is_duplicate(&self, form: &Form<'_>, found: KnownNames) -> bool
         requires { found ≡ found_by (configuration self.now) (seen form.now) }
         ensures { result ≡ is_duplicate (configuration self.now) (seen form.now) }
@@ -91,6 +110,12 @@ impl Index {
             Form::Contact(_) | Form::Host(_) | Form::Service(_) => found.named.is_some(),
             Form::Escalation(_) => false,
             Form::Option(option) => self.said_of(option.name).is_some(),
+            Form::Settle(_) => self.settle.is_some(),
+            Form::Delay(_) => self
+                .directives_at(found.named)
+                .first_notification_delay
+                .is_some(),
+            Form::Volatile(_) => self.directives_at(found.named).is_volatile,
         }
     }
 
@@ -119,7 +144,11 @@ impl Index {
             Form::Host(host) => self.has_unknown_contact(host.contacts),
             Form::Service(service) => self.has_unknown_contact(service.contacts),
             Form::Escalation(escalation) => self.has_unknown_contact(escalation.contacts),
-            Form::Contact(_) | Form::Option(_) => false,
+            Form::Contact(_)
+            | Form::Option(_)
+            | Form::Settle(_)
+            | Form::Delay(_)
+            | Form::Volatile(_) => false,
         }
     }
 
@@ -131,7 +160,7 @@ impl Index {
             Form::Contact(_) => self.contacts.len() >= MOST_CONTACTS,
             Form::Host(_) | Form::Service(_) => self.objects.len() >= MOST_OBJECTS,
             Form::Escalation(_) => self.escalations.len() >= MOST_ESCALATIONS,
-            Form::Option(_) => false,
+            Form::Option(_) | Form::Settle(_) | Form::Delay(_) | Form::Volatile(_) => false,
         }
     }
 

@@ -4,16 +4,16 @@ ghost use Rattle.std.specs.Prelude.{◌≡◌};
 ghost use Rattle.mon_inventory.specs.Line.{has_bad_form, has_bad_number, has_bad_option, is_option};
 ghost use Rattle.mon_inventory.specs.Seen.{seen};
 
-use crate::fields::{is_max, is_number, is_switch};
+use crate::fields::{is_number, is_positive, is_switch};
 use crate::form::Form;
 use crate::items::has_empty_item;
 use crate::letters::{OptionsOf, has_other_item};
 
-/// Whether there is an option of this name; `passive_host_checks_are_soft` is the only one.
+/// Whether there is an option of this name.
 fn is_option(name: &[u8]) -> bool
     ensures { result ≡ is_option name.now }
 {
-    name == b"passive_host_checks_are_soft".as_slice()
+    name == b"passive_host_checks_are_soft".as_slice() || name == b"tell_by_clock".as_slice()
 }
 
 impl Form<'_> {
@@ -46,6 +46,9 @@ impl Form<'_> {
                     || has_empty_item(escalation.contacts)
             }
             Form::Option(option) => !is_option(option.name),
+            Form::Settle(_) => false,
+            Form::Delay(delay) => delay.host.is_empty(),
+            Form::Volatile(volatile) => volatile.host.is_empty() || volatile.service.is_empty(),
         }
     }
 
@@ -54,15 +57,17 @@ impl Form<'_> {
         ensures { result ≡ has_bad_number (seen self.now) }
     {
         match self {
-            Form::Host(host) => !is_max(host.max) || !is_number(host.interval),
-            Form::Service(service) => !is_max(service.max) || !is_number(service.interval),
+            Form::Host(host) => !is_positive(host.max) || !is_number(host.interval),
+            Form::Service(service) => !is_positive(service.max) || !is_number(service.interval),
             Form::Escalation(escalation) => {
                 !is_number(escalation.first)
                     || !is_number(escalation.last)
                     || !is_number(escalation.interval)
             }
             Form::Option(option) => !is_switch(option.value),
-            Form::Contact(_) => false,
+            Form::Settle(settle) => !is_positive(settle.seconds),
+            Form::Delay(delay) => !is_positive(delay.seconds),
+            Form::Contact(_) | Form::Volatile(_) => false,
         }
     }
 
@@ -84,7 +89,7 @@ impl Form<'_> {
                     has_other_item(OptionsOf::EscalatedService, escalation.options)
                 }
             }
-            Form::Option(_) => false,
+            Form::Option(_) | Form::Settle(_) | Form::Delay(_) | Form::Volatile(_) => false,
         }
     }
 }

@@ -1,4 +1,5 @@
-//! The records of an inventory: contacts, objects, escalations and options, as their lines define them.
+//! The records of an inventory: contacts, objects, escalations and options, as their lines define them, and the
+//! directives that other lines set for an object.
 use crate::letters::Letters;
 use cmd_types::{Numbers, Text};
 
@@ -86,3 +87,31 @@ pub struct OptionSpec {
     pub name: Text,
     pub on: bool,
 }
+
+/// The directives of a host or a service that have lines of their own (profile; Nagios's object definitions have them
+/// under the same names).
+///
+/// ```
+/// let text = b"host;web;3;60;;\nservice;web;http;3;60;;\ndelay;web;http;300\nvolatile;web;http\n";
+/// let inventory = Inventory::parse(alloc, text)?;
+/// let Some(http) = inventory.service_of(b"web", b"http") else {
+///     return Err(Fail::new("the service http"));
+/// };
+/// let directives = inventory.directives(http);
+/// assert_eq!(rt; directives.first_notification_delay, Some(300));
+/// assert!(rt; directives.is_volatile);
+/// ```
+#[derive(Clone, Copy)]
+pub struct Directives {
+    /// `first_notification_delay`, in seconds, at least 1: how long a hard problem stands before its first notice;
+    /// `None` where no line sets it.
+    pub first_notification_delay: Option<u64>,
+    /// `is_volatile`: each bad result of this service is notified; false where no line sets it, and of each host.
+    pub is_volatile: bool,
+}
+
+/// The directives of an object for which no line sets any.
+pub const NO_DIRECTIVES: Directives = Directives {
+    first_notification_delay: None,
+    is_volatile: false,
+};

@@ -35,4 +35,15 @@ pub struct Facts {
     pub last: Option<u64>,
     /// The notification interval in force, in seconds; 0 for no further notice.
     pub interval: u64,
+    /// A bad result of a volatile service was just taken: each of these is notified, whatever the number, the code and
+    /// the interval.
+    pub volatile: bool,
+    /// The second at which the object came into its hard problem; `None` where it is in none.
+    pub since: Option<u64>,
+    /// The object's first notification delay, in seconds; `None` where it has none.
+    pub delay: Option<u64>,
+    /// The second at which what stands above the object came back; `None` where nothing that is back stands above it.
+    pub above_back: Option<u64>,
+    /// For how many seconds after that results are awaited; `None` for no time.
+    pub settle: Option<u64>,
 }

@@ -17,4 +17,4 @@ pub use custom::{custom_recipients, custom_viable, increments};
 pub use facts::Facts;
 pub use interval::interval_in_force;
 pub use letter::{Letter, has_letter, letter_of};
-pub use viable::{is_delayed, is_due, problem_viable, recovery_viable};
+pub use viable::{is_delayed, is_due, is_old, is_settled, problem_viable, recovery_viable};

@@ -1,11 +1,11 @@
--- What a reader answers of a text that was written of a saved world.
-use Rattle.std.proofs.Common.{◌≡◌, ◌≢◌, inl, inr, ℕ, ◌+◌, List, Result, Ok, Err, refl, ap, sym, ◌∙◌, subst, arith}
+-- What a reader returns for a text that was written from a saved world.
+use Rattle.std.proofs.Common.{◌≡◌, ◌≢◌, inl, inr, ℕ, ◌+◌, ◌*◌, List, Result, Ok, Err, refl, ap, sym, ◌∙◌, subst, arith}
 use Rattle.std.specs.Result.{IsErrAnd}
 use Rattle.mon_inventory.specs.Configuration.{Configuration}
 use Rattle.mon_inventory.specs.Facts.{IsInventory}
 use Rattle.mon_engine.specs.Held.{Held}
 use Rattle.mon_engine.specs.World.{World}
-use Rattle.mon_engine.specs.Sound.{ever, IsWorldAt}
+use Rattle.mon_engine.specs.Sound.{ever, raised, IsWorldAt}
 use Rattle.mon_engine.specs.Saved.{IsSaved, going_on}
 use Rattle.mon_state.specs.declared.fault.StateCause.{StateCause}
 use Rattle.mon_state.specs.declared.fault.StateCause.TheVariants.{BadLine, BadValue, NotAsWritten, UnknownVersion, Memory}
@@ -37,7 +37,7 @@ only_memory Memory h = refl
 
 -- ---- what is read
 
--- a text that is read as a saved world spells the world that goes on from it
+-- a text that is read as a saved world spells the world that resumes from it
 pub spells : (inv : Configuration) (text : List ℕ) (w : World) → IsInventory inv → IsSaved inv w → IsStateText inv text w → state_at inv text ≡ Ok (going_on w)
 spells inv text w sound h (inl is) = ap (state_at inv) is ∙ world_gives Two inv w sound h (λ e. absurd cc)
 spells inv text w sound h (inr is) = ap (state_at inv) is.0 ∙ world_gives One inv w sound h (λ e. is.1)
@@ -57,7 +57,7 @@ rest_is version inv text rest read parts w sound heading same gives h is = read_
 
 -- ---- the text that is read
 
--- what is written of a world in the version of the text is read as it
+-- the text of a world, in version 1 that of an upgraded world, is a text of the state of this world
 pub is_state_text : (version : StateVersion) (inv : Configuration) (text : List ℕ) (w : World) → text ≡ text_of version inv w → (version ≡ One → upgrade w ≡ w) → IsStateText inv text w
 is_state_text One inv text w is up = inr (is, up refl)
 is_state_text Two inv text w is up = inl is
@@ -65,7 +65,7 @@ is_state_text Two inv text w is up = inl is
 same_version : (a b : StateVersion) (x y : List ℕ) → ◌≡◌ {A = Result (StateVersion × List ℕ) Stuck} (Ok (a, x)) (Ok (b, y)) → a ≡ b
 same_version a b x y e = (let same : ◌≡◌ {A = StateVersion × List ℕ} (a, x) (b, y) = cc in ap (λ (p : StateVersion × List ℕ). p.0) same)
 
--- it is written in the version of its heading
+-- a text that is read as a world is the text of that world in the version of the heading
 pub is_written : (version : StateVersion) (inv : Configuration) (text rest : List ℕ) (w : World) → version_at text ≡ Ok (version, rest) → IsStateText inv text w → text ≡ text_of version inv w
 is_written version inv text rest w heading (inl is) =
     let found = heading_is Two inv text w is in
@@ -74,17 +74,17 @@ is_written version inv text rest w heading (inr is) =
     let found = heading_is One inv text w is.0 in
     is.0 ∙ ap (λ (v : StateVersion). text_of v inv w) (sym (same_version version One rest found.0 (sym heading ∙ found.1)))
 
--- so its heading can be read
+-- the heading of a text that is read as a world can be read
 pub heading_reads : (inv : Configuration) (text : List ℕ) (e : Stuck) (w : World) → IsStateText inv text w → version_at text ≡ Err e → ⊥
 heading_reads inv text e w (inl is) fails = (let found = heading_is Two inv text w is in let clash : ◌≡◌ {A = Result (StateVersion × List ℕ) Stuck} (Err e) (Ok (Two, found.0)) = sym fails ∙ found.1 in cc)
 heading_reads inv text e w (inr is) fails = (let found = heading_is One inv text w is.0 in let clash : ◌≡◌ {A = Result (StateVersion × List ℕ) Stuck} (Err e) (Ok (One, found.0)) = sym fails ∙ found.1 in cc)
 
--- ---- what goes on
+-- ---- the monitor that resumes
 
 pub goes_on_saved : (inv : Configuration) (w : World) → IsSaved inv w → IsSaved inv (going_on w)
 goes_on_saved inv w h =
     let was = h.world in
-    let now : IsWorldAt inv (ever w) (going_on w) = record {
+    let now : IsWorldAt inv (ever w) (raised w) (going_on w) = record {
       clock = was.clock;
       states = was.states;
       contacts = was.contacts;
@@ -99,7 +99,7 @@ goes_on_saved inv w h =
     let same : ever w ≡ (w.before + w.entries) + 0 = omega arith in
     let room = h.room in
     record {
-      world = subst (λ n. IsWorldAt inv n (going_on w)) same now;
+      world = subst (λ n. IsWorldAt inv n (2 * n) (going_on w)) same now;
       notes = h.notes;
       records = h.records;
       said = record { objects = h.said.objects; comments = h.said.comments; downtimes = h.said.downtimes };
@@ -108,7 +108,7 @@ goes_on_saved inv w h =
       room = omega (arith, room);
     }
 
--- what is written of the monitor that goes on
+-- the text of the monitor that resumes is the text that was read
 pub text_is : (version : StateVersion) (inv inv' : Configuration) (text rest : List ℕ) (w parts now : World) → version_at text ≡ Ok (version, rest) → inv' ≡ inv → now ≡ parts → parts ≡ going_on w → IsStateText inv text w → text ≡ text_of version inv' now
 text_is version inv inv' text rest w parts now heading same world is read =
     is_written version inv text rest w heading read ∙ sym (same_text version inv w) ∙ ap (text_of version inv) (sym (world ∙ is)) ∙ ap (λ (k : Configuration). text_of version k now) (sym same)

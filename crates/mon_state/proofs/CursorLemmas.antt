@@ -1,4 +1,4 @@
--- What stands at the front of a text, and many lines that are read one after another.
+-- The bytes at the front of a text, and many lines that are read one after another.
 use Rattle.std.proofs.Common.{◌≡◌, ◌≢◌, ℕ, suc, ◌<◌, List, [], ◌∷◌, ◌++◌, length, get_or, Option, Some, None, Result, Ok, Err, slice_get, MatchOption, Bor, refl, ap, sym, subst, ◌∙◌}
 use Rattle.std.proofs.Common.{inl, inr, eqb, Bool, true, false, if◌then◌else◌}
 use Rattle.std.proofs.lemmas.Bool.{eqb-true}
@@ -32,7 +32,7 @@ pub found_after : (p s : List ℕ) (r : Option (Bor (List ℕ))) → MatchOption
 found_after p s None none = sym (rest_after_none p s none)
 found_after p s (Some x) is = sym (ap (rest_after p) is ∙ rest_after_is p x.now)
 
--- what stands behind these bytes, where the text begins with them
+-- a text that begins with these bytes is these bytes and the rest
 pub front_is : (front text rest : List ℕ) → rest_after front text ≡ Some rest → text ≡ front ++ rest
 unfolding rest_after
 front_is [] text rest is = (let same : Some text ≡ Some rest = is in cc)
@@ -60,14 +60,14 @@ fails_later f e last is h = subst (λ y. Fails e last y) (sym (ap (λ r. r >>= f
 
 -- ---- many lines
 
--- one more was read
+-- one more line was read
 pub many_more : {X : Type 0} (one : List X → List ℕ → Result (X × List ℕ) Stuck) (n m : ℕ) (xs : List X) (x : X) (text rest : List ℕ) (whole : Result (List X × List ℕ) Stuck)
     → n ≡ suc m → one xs text ≡ Ok (x, rest) → many_at one n xs text ≡ whole → many_at one m (xs ++ x ∷ []) rest ≡ whole
 unfolding many_at
 many_more {X = X} one n m xs x text rest whole next read so_far =
     ap (λ (r : Result (X × List ℕ) Stuck). r >>= λ y. many_at one m (xs ++ y.0 ∷ []) y.1) (sym read) ∙ ap (λ k. many_at one k xs text) (sym next) ∙ so_far
 
--- one was not
+-- the next line could not be read
 pub many_fails : {X : Type 0} (one : List X → List ℕ → Result (X × List ℕ) Stuck) (n m : ℕ) (xs : List X) (text : List ℕ) (whole : Result (List X × List ℕ) Stuck) (e : StateCause) (last : List ℕ)
     → n ≡ suc m → Fails e last (one xs text) → many_at one n xs text ≡ whole → Fails e last whole
 unfolding many_at
@@ -83,18 +83,18 @@ many_fails {X = X} one n m xs text whole e last next fails so_far = by_cause e f
     by_cause UnknownVersion k = k
     by_cause Memory k = tt
 
--- none is left
+-- all lines were read
 pub many_end : {X : Type 0} (one : List X → List ℕ → Result (X × List ℕ) Stuck) (n : ℕ) (xs : List X) (text : List ℕ) (whole : Result (List X × List ℕ) Stuck)
     → n ≡ 0 → many_at one n xs text ≡ whole → whole ≡ Ok (xs, text)
 unfolding many_at
 many_end one n xs text whole none so_far = sym so_far ∙ ap (λ k. many_at one k xs text) none
 
--- what goes out by a `?` that passes the fault on
+-- a `?` returns the fault of the step
 pub exit_fails : {X Y : Type 0} (view : X → Y) (r : Result X StateCause) (whole : Result Y Stuck) (e : StateCause) (last : List ℕ) → IsErrAnd r (λ y. y ≡ e) → Fails e last whole → Gives view last r whole
 exit_fails view (Ok x) whole e last is fails = absurd is
 exit_fails view (Err y) whole e last is fails = subst (λ (f : StateCause). Fails f last whole) (sym is) fails
 
--- the line of the inventory whose turn it is
+-- the next line of the inventory
 pub next_spec : {S : Type 0} (specs items : List S) (i n : ℕ) (spec : S) → items ≡ specs → n ≡ i → i < length items → spec ≡ get_or items i spec → slice_get specs n ≡ Some spec
 next_spec {S = S} specs items i n spec same turn within is =
     ap (slice_get specs) turn ∙ ap (λ (xs : List S). slice_get xs i) (sym same) ∙ slice_get-get_or items i spec within ∙ ap Some (sym is)

@@ -12,7 +12,7 @@ use Rattle.mon_state.specs.Faults.{line_of_rest, IsStateFault, IsFeedsFault}
 
 -- ---- a reading that fails
 
--- the code's fault is that of the reading, unless memory runs out
+-- the code's fault is that of the definition, unless memory runs out
 stuck_is : {A : Type 0} (e : StateCause) (last : List ℕ) (read : Result A Stuck) → Fails e last read → (e ≡ Memory) ⊎ (read ≡ Err (e, last))
 stuck_is BadLine last read fails = inr fails
 stuck_is BadValue last read fails = inr fails

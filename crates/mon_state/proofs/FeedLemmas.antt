@@ -1,4 +1,4 @@
--- What is written of feeds is read back.
+-- Feeds that are written are read back.
 use Rattle.std.proofs.Common.{◌≡◌, ℕ, ◌<◌, ◌≤◌, ◌^◌, List, [], ◌∷◌, ◌++◌, length, get_or, take, drop, Option, Some, None, Result, Ok, slice_get, append_assoc, refl, ap, sym, ◌∙◌, subst, arith}
 use Rattle.std.specs.Prelude.{codes, IfSome}
 use Rattle.std.specs.Fmt.{decimal}

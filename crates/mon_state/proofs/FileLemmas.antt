@@ -1,4 +1,4 @@
--- The file `state` is taken apart where it was put together.
+-- The file `state` is split where it was joined.
 use Rattle.std.proofs.Common.{◌≡◌, ◌≢◌, ℕ, ◌+◌, Bool, true, false, eqb, if◌then◌else◌, List, [], ◌∷◌, ◌++◌, length, take, Some, None, Result, Ok, Err, append_assoc, append-nil, length-append, refl, ap, sym, ◌∙◌, arith}
 use Rattle.std.proofs.Math.Seq.{take-append_seam}
 use Rattle.std.specs.Str.{bytes_eq}
@@ -14,7 +14,7 @@ use Rattle.mon_state.proofs.HeadLemmas.{line_before}
 same_bytes : (xs ys : List ℕ) → bytes_eq xs ys ≡ true → xs ≡ ys
 same_bytes xs ys is = (bytes_eq-Decides xs ys).0 is
 
--- a line goes by
+-- a line before the mark is skipped
 line_goes : (front line rest : List ℕ) → Lacks 10 line → behind_mark front (line ++ 10 ∷ rest) ≡ (if bytes_eq (front ++ line) mark then Some rest else behind_mark [] rest)
 unfolding behind_mark
 line_goes front [] rest lacks = ap (λ (l : List ℕ). if bytes_eq l mark then Some rest else behind_mark [] rest) (sym (append-nil front))
@@ -25,7 +25,7 @@ unfolding behind_mark
 no_line front [] lacks = refl
 no_line front (x ∷ line) lacks = rw (ne_eqb x 10 lacks.0) (no_line (front ++ x ∷ []) line lacks.1)
 
--- the bytes are the mark or not
+-- the mark is found where the first line is the mark
 pub mark_found : (text line rest : List ℕ) → Lacks 10 line → text ≡ line ++ 10 ∷ rest → bytes_eq line mark ≡ true → behind_mark [] text ≡ Some rest
 mark_found text line rest lacks is same = ap (behind_mark []) is ∙ line_goes [] line rest lacks ∙ ap (λ (b : Bool). if b then Some rest else behind_mark [] rest) same
 
@@ -35,7 +35,7 @@ mark_passed text line rest lacks is other = ap (behind_mark []) is ∙ line_goes
 pub mark_none : (text line : List ℕ) → Lacks 10 line → text ≡ line → behind_mark [] text ≡ None
 mark_none text line lacks is = ap (behind_mark []) is ∙ no_line [] line lacks
 
--- what stands behind the mark of a text that was put together
+-- the text after the mark of a text that was joined
 behind_gives : (line given behind : List ℕ) → HasNoMark line given → behind_mark line (given ++ (mark ++ 10 ∷ behind)) ≡ Some behind
 unfolding behind_mark
 behind_gives line [] behind none = ap (λ (l : List ℕ). behind_mark l (mark ++ 10 ∷ behind)) none
@@ -63,7 +63,7 @@ one_more : (line : List ℕ) (x : ℕ) → Lacks 10 line → x ≢ 10 → Lacks 
 one_more [] x lacks other = (other, tt)
 one_more (y ∷ line) x lacks other = (lacks.0, one_more line x lacks.1 other)
 
--- what stands behind a mark was put together so
+-- a text with a mark was joined in this way
 behind_is : (line text behind : List ℕ) → Lacks 10 line → behind_mark line text ≡ Some behind → IsSplit behind (line ++ text)
 unfolding behind_mark
 behind_is line [] behind lacks is = (let clash : None ≡ Some behind = is in absurd cc)
@@ -84,7 +84,7 @@ behind_is line (x ∷ text) behind lacks is = by_byte (eqb x 10) refl is (behind
 pub mark_is : (text behind : List ℕ) → behind_mark [] text ≡ Some behind → IsSplit behind text
 mark_is text behind is = behind_is [] text behind tt is
 
--- the bytes before the mark, by how many stand behind it
+-- the bytes before the mark, by the number of bytes after it
 pub given_is : (text given behind : List ℕ) (before : ℕ) → text ≡ given ++ (mark ++ 10 ∷ behind) → before + (4 + length behind) ≡ length text → take before text ≡ given
 given_is text given behind before is count =
     let long : before ≡ length given = omega (arith, count, ap length is, length-append given (mark ++ 10 ∷ behind)) in

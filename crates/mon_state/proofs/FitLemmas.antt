@@ -38,7 +38,7 @@ ids_grow last cs (suc n) h all = by (ids_grow last cs n (omega (arith, h)) (λ k
     by before None is w = absurd (let high = past cs n is in omega (arith, h, high))
     by before (Some c) is w = (let least = before.0 in let above = w.0 in omega (arith, least, above), w.1)
 
--- past the end of a list nothing is said
+-- nothing is required past the end of a list
 beyond : {X : Type 0} (P : X → Type 0) (xs : List X) (k : ℕ) → length xs ≤ k → IfSome (slice_get xs k) P
 beyond {X} P xs k h = subst (λ (o : Option X). IfSome o P) (sym (slice_get_past xs k h)) tt
 
@@ -100,7 +100,7 @@ same_line : (a a' b b' n n' : ℕ) (found found' : Misfit) → a ≡ a' → b �
 same_line a a' b b' n n' found found' os cs ns is =
     ap (λ k. line_of_part k b n found) os ∙ ap (λ k. line_of_part a' k n found) cs ∙ ap (λ k. line_of_part a' b' k found) ns ∙ ap (line_of_part a' b' n') is
 
--- what the reader knows of a fault with which no monitor resumes, and how it has counted
+-- what the reader knows of the fault of parts from which no monitor resumes, and its counts
 pub record IsCounted (inv : Configuration) (w : World) (f : ResumeFault) (found named : Misfit) (objects contacts comments : ℕ) : Type 0 where
   pub is : f ≡ fault.Misfit found
   pub first : NamesFirstMisfit inv w f

@@ -1,4 +1,4 @@
--- What is written is read back, field by field and line by line.
+-- A written text is read back, field by field and line by line.
 use Rattle.std.proofs.Common.{◌≡◌, ℕ, ◌<◌, ◌≤◌, ◌^◌, Bool, true, false, List, [], ◌∷◌, ◌++◌, Option, Some, None, Result, Ok, slice_get, append_assoc, refl, ap, sym, ◌∙◌, arith, rules}
 use Rattle.std.specs.Prelude.{codes, IfSome}
 use Rattle.std.specs.Fmt.{decimal}
@@ -19,7 +19,7 @@ use Rattle.mon_state.proofs.CursorLemmas.{rest_after_is}
 
 -- ---- a line, field by field
 
--- fields behind one another, each behind a semicolon, then a line feed and what follows
+-- fields one after another, each with a semicolon before it, then a line feed and the rest
 abbrev pub chained : List (List ℕ) → List ℕ → List ℕ
 chained [] rest = 10 ∷ rest
 chained (field ∷ fields) rest = 59 ∷ field ++ chained fields rest

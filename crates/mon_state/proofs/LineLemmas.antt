@@ -1,4 +1,4 @@
--- Each line is read back, and so are many, and so is the whole.
+-- A line is read back, and so are many lines and the whole text.
 use Rattle.std.proofs.Common.{◌≡◌, ℕ, zero, suc, ◌+◌, ◌<◌, ◌≤◌, ◌^◌, Bool, List, [], ◌∷◌, ◌++◌, length, take, get_or, Option, Some, None, Result, Ok, slice_get, append_assoc, refl, ap, sym, ◌∙◌, subst, arith}
 use Rattle.std.specs.Prelude.{codes, IfSome}
 use Rattle.std.specs.Fmt.{decimal}
@@ -40,7 +40,7 @@ moments_behind : (version : StateVersion) (m : Moments) (field rest : List ℕ) 
 moments_behind One m field rest = refl
 moments_behind Two m field rest = refl
 
--- what stands behind the names
+-- the fields after the names
 abbrev known_text : StateVersion → Object → List ℕ → List ℕ
 known_text version o rest =
     decimal o.status.code ++ 59 ∷ (flag o.status.hard ++ 59 ∷ (decimal o.status.attempt ++ 59 ∷ (acknowledgement_text o.acknowledgement ++ 59 ∷ (decimal o.number ++ 59 ∷ (optional o.last ++ 59 ∷ (optional o.notified ++ 59 ∷ (optional o.not_before
@@ -123,7 +123,7 @@ said_gives : (author text rest : List ℕ) → IsSaid author text → said_at (a
 unfolding said_at
 said_gives author text rest h = then _ (word_gives author (text ++ 10 ∷ rest) h.no_semicolon h.author_line) (then _ (field_gives 10 text rest h.text_line) refl)
 
--- its object is one of so many, and its numbers can be read
+-- the comment's object is one of `count`, and its numbers can be read
 pub record IsReadableComment (count : ℕ) (c : Comment) : Type 0 where
   pub object : c.object < count
   pub id : c.id < 10 ^ 18
@@ -142,7 +142,7 @@ comment_of_gives specs spec c rest at few h =
     (then _ (number_gives 59 c.time _ refl h.time)
     (then _ (said_gives c.author c.text rest h.said) refl)))))))
 
--- the line of the inventory that is there
+-- the inventory has a line at this index
 with_spec : (specs : List ObjectSpec) (i : ℕ) → i < length specs → (P : Option ObjectSpec → Type 0) → ((spec : ObjectSpec) → slice_get specs i ≡ Some spec → P (Some spec)) → P (slice_get specs i)
 with_spec [] i low P f = absurd (omega arith)
 with_spec (x ∷ specs) i low P f = let at = slice_get-get_or (x ∷ specs) i x low in subst P (sym at) (f (get_or (x ∷ specs) i x) at)
@@ -194,7 +194,7 @@ downtime_gives specs d rest few h = with_spec specs d.object h.object (λ o. dow
 
 -- ---- many lines
 
--- each by itself
+-- lines that depend on the item alone
 pub each_gives : {X : Type 0} (one : List X → List ℕ → Result (X × List ℕ) Stuck) (text : X → List ℕ) (Q : X → Type 0) → ((done : List X) (x : X) (rest : List ℕ) → Q x → one done (text x ++ rest) ≡ Ok (x, rest))
     → (done todo : List X) (rest : List ℕ) → AllByRecursion Q todo → many_at one (length todo) done (flat_map text todo ++ rest) ≡ Ok (done ++ todo, rest)
 unfolding many_at
@@ -204,7 +204,7 @@ each_gives {X = X} one text Q each done (x ∷ todo) rest all =
     (then _ (each done x (flat_map text todo ++ rest) all.0)
     (each_gives one text Q each (done ++ x ∷ []) todo rest all.1 ∙ ap (λ (xs : List X). Ok (xs, rest)) (append_assoc done (x ∷ []) todo)))
 
--- each by its place among all
+-- lines that depend on the index of the item
 pub placed_gives : {X : Type 0} (one : List X → List ℕ → Result (X × List ℕ) Stuck) (text : ℕ → List ℕ) (xs : List X) → ((k : ℕ) (x : X) (rest : List ℕ) → slice_get xs k ≡ Some x → one (take k xs) (text k ++ rest) ≡ Ok (x, rest))
     → (n k : ℕ) (rest : List ℕ) → k + n ≡ length xs → many_at one n (take k xs) (flat_map text (range_with_len k n) ++ rest) ≡ Ok (xs, rest)
 unfolding many_at

@@ -1,4 +1,4 @@
--- What spells a number is read as that number.
+-- The digits of a number are read as that number.
 use Rattle.std.proofs.Common.{◌≡◌, ℕ, ◌<◌, ◌≤◌, ◌^◌, true, false, ltb, leb, List, [], ◌∷◌, length, get_or, drop, Some, None, refl, ap, ◌∙◌, arith}
 use Rattle.std.proofs.Math.Bool.{and-false}
 use Rattle.std.proofs.Math.Nat.{pow-le-pow_right}
@@ -40,7 +40,7 @@ digits_stop text i lt e = at_drop_more all_ascii_digits text i 0 lt ∙ rw e ref
 pub power_below : (n i : ℕ) → i < MOST_DIGITS → n < 10 ^ i → n < 10 ^ 17
 power_below n i lt below = omega (arith, pow-le-pow_right {n = 10} (omega arith) {i = i} {j = 17} (omega arith))
 
--- ---- what is written of a number
+-- ---- the written digits of a number
 
 own : IsNumeralModel (λ ds. all_ascii_digits ds ≡ true) (digits_value 10)
 own = numerals_by_value _ tells_all_ascii_digits

@@ -1,11 +1,11 @@
--- Two texts are compared, one byte after another.
+-- Two texts are compared byte by byte.
 use Rattle.std.proofs.Common.{◌≡◌, ◌≢◌, ◌⊎◌, inl, inr, ℕ, suc, zero, ◌+◌, ◌<◌, ◌≤◌, min, Bool, true, false, eqb, if◌then◌else◌, List, [], ◌∷◌, length, get_or, drop, refl, ap, ◌∙◌, arith}
 use Rattle.std.proofs.Math.ListN.{drop_of_length-le}
 use Rattle.std.proofs.lemmas.Bool.{cases_lt, eq-eqb, ne_eqb}
 use Rattle.std.proofs.lemmas.List.{at_drop_more}
 use Rattle.mon_state.specs.Faults.{difference}
 
--- a byte of each, by whether they are the same
+-- at a byte of each text, by whether the bytes are equal
 at_byte : (xs ys : List ℕ) (i : ℕ) (b : Bool) → i < length xs → i < length ys → eqb (get_or xs i 0) (get_or ys i 0) ≡ b → difference (drop i xs) (drop i ys) ≡ (if b then suc (difference (drop (i + 1) xs) (drop (i + 1) ys)) else zero)
 unfolding difference
 at_byte xs ys i b low high is =
@@ -19,7 +19,7 @@ same_here xs ys i low high same = at_byte xs ys i true low high (eq-eqb (get_or 
 pub other_here : (xs ys : List ℕ) (i : ℕ) → i < length xs → i < length ys → get_or xs i 0 ≢ get_or ys i 0 → difference (drop i xs) (drop i ys) ≡ 0
 other_here xs ys i low high other = at_byte xs ys i false low high (ne_eqb (get_or xs i 0) (get_or ys i 0) other)
 
--- one of them ends
+-- one of the texts ends
 pub end_here : (xs ys : List ℕ) (i : ℕ) → min (length xs) (length ys) ≤ i → difference (drop i xs) (drop i ys) ≡ 0
 unfolding difference
 end_here xs ys i ends = by (cases_lt (length xs) (length ys))

@@ -1,4 +1,4 @@
--- What is written of a world does not tell it from one that goes on from it, and tells it from all others.
+-- The text of a world is that of the world that resumes from it, and of no world that resumes differently.
 use Rattle.std.proofs.Common.{◌≡◌, ℕ, ◌+◌, ◌++◌, length, ap, arith}
 use Rattle.std.specs.List.{flat_map}
 use Rattle.mon_engine.specs.Sound.{ever}

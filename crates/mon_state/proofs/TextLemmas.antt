@@ -10,7 +10,7 @@ use Rattle.mon_engine.specs.Report.{each_index, fields_text}
 
 -- ---- a text that grows
 
--- and then on
+-- a text that grows twice has grown
 pub grows_on : (a b c : List ℕ) → Grows a b → Grows b c → Grows a c
 grows_on a b c first second =
     let low : length a ≤ length b = omega (arith, ap length first, length-take (length a) b) in
@@ -18,7 +18,7 @@ grows_on a b c first second =
 
 -- ---- the items of a list, one after another
 
--- the line of one more
+-- the line of one more item is appended
 pub put_next : {X : Type 0} (line : X → List ℕ) (xs : List X) (i : ℕ) (x d : X) (out out' whole : List ℕ) → i < length xs → x ≡ get_or xs i d → out ++ flat_map line (drop i xs) ≡ whole → out' ≡ out ++ line x → out' ++ flat_map line (drop (i + 1) xs) ≡ whole
 put_next {X = X} line xs i x d out out' whole low is so_far put =
     ap (λ (t : List ℕ). t ++ flat_map line (drop (i + 1) xs)) put
@@ -27,13 +27,13 @@ put_next {X = X} line xs i x d out out' whole low is so_far put =
     ∙ sym (at_drop_more (λ (ys : List X). out ++ flat_map line ys) xs i d low)
     ∙ so_far
 
--- none is left
+-- the lines of all items are appended
 pub put_last : {X : Type 0} (line : X → List ℕ) (xs : List X) (i : ℕ) (out whole : List ℕ) → length xs ≤ i → out ++ flat_map line (drop i xs) ≡ whole → out ≡ whole
 put_last {X = X} line xs i out whole high so_far = sym (append-nil out) ∙ sym (at_drop_all (λ (ys : List X). out ++ flat_map line ys) xs i high) ∙ so_far
 
 -- ---- each number
 
--- one more
+-- the lines of one more number
 pub each_index_more : (f : ℕ → List ℕ) (n : ℕ) → each_index f (n + 1) ≡ each_index f n ++ f n
 each_index_more f n =
     sym (flat_map-map f (λ x. x) (range_with_len 0 (n + 1)))
@@ -51,7 +51,7 @@ pub on_ok : {T E : Type 0} (r : Result T E) (P Q : Type 0) → (P → Q) → OnO
 on_ok (Ok x) P Q f p = f p
 on_ok (Err e) P Q f p = tt
 
--- four parts, one, one, two and three
+-- eleven parts that are appended in groups of four, one, one, two and three
 pub all_put : (out m1 m2 m3 m4 new a b c d e f g h i j k : List ℕ) → m1 ≡ out ++ a ++ b ++ c ++ d → m2 ≡ m1 ++ e → m3 ≡ m2 ++ f → m4 ≡ m3 ++ g ++ h → new ≡ m4 ++ i ++ j ++ k → new ≡ out ++ (a ++ b ++ c ++ d ++ e ++ f ++ g ++ h ++ i ++ j ++ k)
 all_put out m1 m2 m3 m4 new a b c d e f g h i j k one two three four five =
     five

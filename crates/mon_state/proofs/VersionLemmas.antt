@@ -73,7 +73,7 @@ same_fault text a b e f x y = ap (λ (s : Stuck). s.0) (same_stuck (e, a) (f, b)
 pub known_not : (text : List ℕ) (h : StateVersion × List ℕ) → version_at text ≡ Ok h → IsOfUnknownVersion text → ⊥
 known_not text h is u = (let unknown = unknown_is text u in let clash : ◌≡◌ {A = Result (StateVersion × List ℕ) Stuck} (Ok h) (Err (UnknownVersion, unknown.0)) = sym is ∙ unknown.1 in cc)
 
--- what was cut stands together again
+-- the text before a byte, the byte, and the text after it are the whole text
 joined : (b : ℕ) (text rest : List ℕ) → after b text ≡ Some rest → text ≡ before b text ++ b ∷ rest
 joined b [] rest is = (let clash : None ≡ Some rest = is in absurd cc)
 joined b (x ∷ text) rest is = by_byte (eqb x b) refl is (joined b text rest)
@@ -82,7 +82,7 @@ joined b (x ∷ text) rest is = by_byte (eqb x b) refl is (joined b text rest)
     by_byte true same found more = (let left : text ≡ rest = cc in λ i. eqb-true x b same i ∷ left i)
     by_byte false other found more = ap (λ (l : List ℕ). x ∷ l) (more found)
 
--- the steps behind the version, the number, and the field with the number
+-- the steps after the version, the number, and the field with the number
 abbrev after_version : (named rest : List ℕ) → Option StateVersion → Result (StateVersion × List ℕ) Stuck
 after_version named rest o = known_or named o >>= λ v. Ok (v, rest)
 

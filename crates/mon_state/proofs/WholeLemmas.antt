@@ -1,5 +1,5 @@
--- What is written of a saved world is read as the world with which a monitor goes on.
-use Rattle.std.proofs.Common.{◌≡◌, ℕ, ◌+◌, ◌<◌, ◌≤◌, ◌^◌, Bool, true, false, List, [], ◌∷◌, ◌++◌, length, take, get_or, Option, Some, None, option_map, Result, Ok, Err, map, slice_get, append_assoc, refl, ap, sym, ◌∙◌, subst, arith}
+-- The text of a saved world is read as the world from which a monitor resumes.
+use Rattle.std.proofs.Common.{◌≡◌, ℕ, ◌+◌, ◌*◌, ◌<◌, ◌≤◌, ◌^◌, Bool, true, false, List, [], ◌∷◌, ◌++◌, length, take, get_or, Option, Some, None, option_map, Result, Ok, Err, map, slice_get, append_assoc, refl, ap, sym, ◌∙◌, subst, arith}
 use Rattle.std.specs.Prelude.{codes, IfSome, All}
 use Rattle.std.specs.Fmt.{decimal}
 use Rattle.std.specs.List.{flat_map, AllByRecursion}
@@ -24,7 +24,7 @@ use Rattle.mon_engine.specs.declared.outcome.Rejection.{Rejection}
 use Rattle.mon_engine.specs.declared.notice.Notice.{Notice}
 use Rattle.mon_engine.specs.Report.{line, contact_line, contact_line_of, clock_line, program_line, each_index}
 use Rattle.mon_engine.specs.World.{World}
-use Rattle.mon_engine.specs.Sound.{ever, AreObjectStates}
+use Rattle.mon_engine.specs.Sound.{ever, raised, AreObjectStates}
 use Rattle.mon_engine.specs.Saved.{IsSaidObject, IsSaidComment, IsSaidDowntime, IsSaved, going_on}
 use Rattle.mon_state.specs.State.{heading_line, object_line, object_line_of, comment_line, downtime_line, entries_line, comments_line, downtimes_line, end_line, line_count, text_of}
 use Rattle.mon_state.specs.declared.version.StateVersion.{StateVersion}
@@ -35,7 +35,7 @@ use Rattle.mon_state.proofs.LawLemmas.{line_behind, then, expect_gives, number_g
 use Rattle.mon_state.proofs.VersionLemmas.{version_gives}
 use Rattle.mon_state.proofs.LineLemmas.{AreOfVersion, IsReadableObject, known_gives, switch_gives, program_gives, IsReadableComment, comment_gives, IsReadableDowntime, downtime_gives, each_gives, placed_gives}
 
--- ---- what a saved world has can be read
+-- ---- the parts of a saved world can be read
 
 small_moment : (o : Option ℕ) → IfSome o (λ n. n ≤ GREATEST_NUMBER) → IfSome o (λ n. n < 10 ^ 18)
 small_moment None h = tt
@@ -45,7 +45,7 @@ code_small : (service : Bool) (code : ℕ) → IsCodeOf service code → code �
 code_small true code h = omega (arith, h)
 code_small false code h = omega (arith, h)
 
-readable_object : (inv : Configuration) (n : ℕ) (os : List Object) (k : ℕ) (spec : ObjectSpec) (o : Object) → IsInventory inv → n ≤ GREATEST_NUMBER → AreObjectStates n inv.objects os → All IsSaidObject os
+readable_object : (inv : Configuration) (n : ℕ) (os : List Object) (k : ℕ) (spec : ObjectSpec) (o : Object) → IsInventory inv → n ≤ 2 * GREATEST_NUMBER → AreObjectStates n inv.objects os → All IsSaidObject os
     → slice_get inv.objects k ≡ Some spec → slice_get os k ≡ Some o → IsReadableObject o
 readable_object inv n os k spec o sound few states said at here =
     let state = states.each k spec o at here in
@@ -65,7 +65,7 @@ readable_object inv n os k spec o sound few states said at here =
       output = its.output;
     }
 
--- no more comments are there than ids were given
+-- there are at most as many comments as ids were assigned
 few_comments : (low most : ℕ) (cs : List Comment) → low ≤ most → AreAscending low cs → AllByRecursion (λ (c : Comment). c.id ≤ most) cs → low + length cs ≤ most
 few_comments low most [] h a g = omega (arith, h)
 few_comments low most (c ∷ cs) h a g = let rest = few_comments c.id most cs g.0 a.1 g.1 in omega (arith, rest, a.0)
@@ -109,7 +109,7 @@ readable_downtimes count n m (d ∷ ds) small few records known said =
 turn_of : {X : Type 0} (xs : List X) (k : ℕ) (x : X) → slice_get xs k ≡ Some x → length (take k xs) ≡ k
 turn_of xs k x at = length-take k xs ∙ (let low = slice_get_within xs k x at in omega arith)
 
-object_line_gives : (version : StateVersion) (clock : ℕ) (inv : Configuration) (n : ℕ) (os : List Object) → IsInventory inv → n ≤ GREATEST_NUMBER → AreObjectStates n inv.objects os → All IsSaidObject os
+object_line_gives : (version : StateVersion) (clock : ℕ) (inv : Configuration) (n : ℕ) (os : List Object) → IsInventory inv → n ≤ 2 * GREATEST_NUMBER → AreObjectStates n inv.objects os → All IsSaidObject os
     → ((k : ℕ) (o : Object) → slice_get os k ≡ Some o → AreOfVersion version clock o.status o.moments)
     → (k : ℕ) (o : Object) (rest : List ℕ) → slice_get os k ≡ Some o → next_known version clock inv.objects (take k os) (object_line version inv.objects os k ++ rest) ≡ Ok (o, rest)
 unfolding object_line
@@ -139,7 +139,7 @@ comments_head last count rest = rw (line_behind (codes "comments") (decimal last
 
 -- ---- the whole
 
--- the parts of a text, each before all that follow it
+-- the parts of a text, each with all parts after it
 downtimes_part : Configuration → World → List ℕ
 downtimes_part inv w = flat_map (downtime_line inv.objects) w.downtimes ++ end_line (line_count inv w)
 
@@ -173,7 +173,7 @@ at_rest version inv text rest read heading same = ap (λ r. r >>= λ h. world_at
 pub upgraded_more : (clock : ℕ) (os : List Object) (o : Object) → map (upgraded_object clock) os ≡ os → upgraded_object clock o ≡ o → map (upgraded_object clock) (os ++ o ∷ []) ≡ os ++ o ∷ []
 upgraded_more clock os o all one = map-append (upgraded_object clock) os (o ∷ []) ∙ (λ i. all i ++ one i ∷ [])
 
--- an object of a world that an upgrade makes has the moments of one
+-- an object of an upgraded world has the moments of an upgrade
 of_upgrade : (w : World) (k : ℕ) (o : Object) → upgrade w ≡ w → slice_get w.objects k ≡ Some o → o.moments ≡ upgraded w.clock o.status
 unfolding upgrade
 of_upgrade w k o is at =
@@ -202,7 +202,7 @@ world_gives version inv w sound h up =
     (then _ (count_gives (codes "clock;") (codes "clock") w.clock entries refl (omega (arith, clock)))
     (then _ (count_gives (codes "entries;") (codes "entries") (ever w) program refl (omega (arith, many)))
     (then _ (program_gives w.program (objects_part version inv w))
-    (then _ (placed_gives (next_known version w.clock inv.objects) (object_line version inv.objects w.objects) w.objects (object_line_gives version w.clock inv (ever w) w.objects sound many states h.said.objects (λ k o at one. of_upgrade w k o (up one) at)) (length inv.objects) 0 (contacts_part inv w) (let long = states.as_many in omega arith))
+    (then _ (placed_gives (next_known version w.clock inv.objects) (object_line version inv.objects w.objects) w.objects (object_line_gives version w.clock inv (raised w) w.objects sound (omega (arith, many)) states h.said.objects (λ k o at one. of_upgrade w k o (up one) at)) (length inv.objects) 0 (contacts_part inv w) (let long = states.as_many in omega arith))
     (then _ (placed_gives (next_switch inv.contacts) (contact_line inv.contacts w.contacts) w.contacts (contact_line_gives inv.contacts w.contacts world.contacts) (length inv.contacts) 0 notes (let long = world.contacts in omega arith))
     (then _ (comments_head w.notes.last_id (length w.notes.comments) (comments_part inv w))
     (then _ (number_gives 59 w.notes.last_id (decimal (length w.notes.comments) ++ 10 ∷ comments_part inv w) refl (omega (arith, ids, many)))
@@ -220,9 +220,9 @@ heading_is version inv text w is =
     let rest = clock_line w.clock ++ (entries_line (ever w) ++ (program_line w.program ++ objects_part version inv w)) in
     (rest, ap version_at (is ∙ in_parts version inv w) ∙ version_gives version rest)
 
--- ---- going on
+-- ---- resuming
 
--- the world with which a monitor goes on has the same text
+-- the world from which a monitor resumes has the same text
 pub same_text : (version : StateVersion) (inv : Configuration) (w : World) → text_of version inv (going_on w) ≡ text_of version inv w
 unfolding text_of
 same_text version inv w = let same : (w.before + w.entries) + 0 ≡ w.before + w.entries = omega arith in rw same refl

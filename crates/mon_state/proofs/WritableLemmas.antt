@@ -54,7 +54,7 @@ small_is most end text n is = (let read = step (number_at end text) (at_most tex
 
 -- ---- a feed
 
--- what is read behind each field
+-- the reading of the rest, after each field
 abbrev behind_last : (journaled earlier : ℕ) (words : List ℕ) → List ℕ × List ℕ → Result (KeptFeed × List ℕ) Stuck
 behind_last journaled earlier words last = Ok (record { words = words; journaled = journaled; earlier = earlier; last = last.0 }, last.1)
 

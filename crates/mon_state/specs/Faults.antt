@@ -37,11 +37,11 @@ difference (x ∷ xs) (y ∷ ys) = if x == y then suc (difference xs ys) else ze
 
 -- ---- a state
 
--- the heading is none, or of an unknown version
+-- the text has no heading, or the heading of an unknown version
 abbrev pub FailsInHeading : (text : List ℕ) → StateFault → Type 0
 FailsInHeading text f = (rest : List ℕ) × (version_at text ≡ Err (f.cause, rest)) × (f.line ≡ 1)
 
--- after the heading a field is not the one that is due: the fault is that of the first such field, in the line in which
+-- after the heading a field is not the expected one: the fault is that of the first such field, in the line in which
 -- the field begins
 abbrev pub FailsInField : Configuration → (text : List ℕ) → StateFault → Type 0
 FailsInField inv text f = (version : StateVersion) × (behind rest : List ℕ) × (version_at text ≡ Ok (version, behind)) × (world_at version inv behind ≡ Err (f.cause, rest)) × (f.line ≡ line_of_rest text rest)
@@ -63,14 +63,14 @@ line_of_part objects contacts comments (part.Comment place) = 6 + objects + cont
 line_of_part objects contacts comments part.Downtimes = 6 + objects + contacts + comments
 line_of_part objects contacts comments (part.Downtime place) = 7 + objects + contacts + comments + place
 
--- each field is the one that is due, and the world that they spell does not fit the inventory: the fault is the first
--- part that does not, in the line in which it stands
+-- each field is the expected one, and the world that the fields spell does not fit the inventory: the fault is the
+-- first part that does not fit, with its line
 abbrev pub FailsToFit : Configuration → (text : List ℕ) → StateFault → Type 0
 FailsToFit inv text f =
     (version : StateVersion) × (w : World) × (found : Misfit) × Spells version inv text w × (IsSaved inv w → ⊥) × IsFirstMisfit inv w found
     × (f.cause ≡ BadValue) × (f.line ≡ line_of_part (length inv.objects) (length inv.contacts) (length w.notes.comments) found)
 
--- the text spells a world that is written otherwise: the fault is the first line that differs
+-- the text spells a world that would be written differently: the fault is the first line that differs
 abbrev pub IsWrittenOtherwise : Configuration → (text : List ℕ) → StateFault → Type 0
 IsWrittenOtherwise inv text f =
     (version : StateVersion) × (w : World) × Spells version inv text w × IsSaved inv w × (text ≢ text_of version inv w) × (f.cause ≡ NotAsWritten) × (f.line ≡ line_at text (difference text (text_of version inv w)))
@@ -79,14 +79,15 @@ IsWrittenOtherwise inv text f =
 abbrev pub HasHeading : (text : List ℕ) → Type 0
 HasHeading text = (version : StateVersion) × (behind : List ℕ) × (version_at text ≡ Ok (version, behind))
 
--- the fault with which a text is refused that is no state of the inventory: the first of these that is there, unless
--- memory runs out behind the heading
+-- the fault of a text that is not a state of the inventory: the first that applies of the four above, or out of memory
+-- after a heading that is read
 abbrev pub IsStateFault : Configuration → (text : List ℕ) → StateFault → Type 0
 IsStateFault inv text f = (HasHeading text × (f.cause ≡ Memory)) ⊎ (FailsInHeading text f ⊎ (FailsInField inv text f ⊎ (FailsToFit inv text f ⊎ IsWrittenOtherwise inv text f)))
 
 -- ---- feeds
 
--- the same of a text that begins with no feeds
+-- the fault of a text that does not begin with feeds: the first faulty field, else the first line that would be
+-- written differently; or out of memory
 abbrev pub IsFeedsFault : (text : List ℕ) → StateFault → Type 0
 IsFeedsFault text f =
     (f.cause ≡ Memory)
@@ -112,21 +113,21 @@ IsBehind text rest inner outer = (outer.cause ≡ inner.cause) × (outer.line �
 abbrev pub IsMarked : (text given rest : List ℕ) → Type 0
 IsMarked text given rest = (behind_mark [] text ≡ Some rest) × (text ≡ given ++ (mark ++ 10 ∷ rest))
 
--- the file has an inventory and feeds, and behind them the state of a version that is not known
+-- the file has an inventory and feeds, followed by a state of an unknown version
 abbrev pub HasUnknownVersion : (text : List ℕ) → Type 0
 HasUnknownVersion text =
     (given state : List ℕ) × (inv : Configuration) × (feeds : Feeds) × IsHead given × (inventory given ≡ Ok inv) × AreWritable feeds
     × (text ≡ given ++ (mark ++ 10 ∷ (feeds_text feeds ++ state))) × IsOfUnknownVersion state
 
--- the fault is that the version is not known, or out of memory
+-- the cause of the fault is an unknown version, or out of memory
 abbrev pub IsUnknownOrMemory : FileFault → Type 0
 IsUnknownOrMemory NoMark = ⊥
 IsUnknownOrMemory (Inventory f) = f.cause ≢ in_inventory.Memory → ⊥
 IsUnknownOrMemory (State f) = (f.cause ≡ UnknownVersion) ⊎ (f.cause ≡ Memory)
 
--- The fault with which a text is refused that is no file `state`: no line is the mark; or the inventory before the mark
--- has a fault; or the rest does not begin with feeds; or it begins with feeds that can be written, and what follows them
--- is no state of the inventory. Or memory runs out.
+-- The fault of a text that is not a file `state`: no line is the mark; or the inventory before the mark has a fault; or
+-- the rest does not begin with feeds; or it begins with feeds that can be written, and the text after them is not a
+-- state of the inventory. Or memory runs out.
 abbrev pub IsFileFault : (text : List ℕ) → FileFault → Type 0
 IsFileFault text NoMark = behind_mark [] text ≡ None
 IsFileFault text (Inventory f) = (given rest : List ℕ) × IsMarked text given rest × (f.cause ≢ in_inventory.Memory → inventory given ≡ Err (f.line, f.cause))
@@ -137,6 +138,6 @@ IsFileFault text (State f) =
 
 -- ---- of private contracts alone
 
--- a text that is not the one that is written, with the first line that differs; or memory runs out
+-- the text differs from the written text, first in the line of the fault; or memory runs out
 abbrev pub IsOtherText : (written text : List ℕ) → StateFault → Type 0
 IsOtherText written text f = (f.cause ≡ Memory) ⊎ ((text ≢ written) × (f.cause ≡ NotAsWritten) × (f.line ≡ line_at text (difference text written)))

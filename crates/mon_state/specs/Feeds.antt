@@ -27,15 +27,15 @@ feed_lines feeds number = feed_lines_of number (slice_get feeds number)
 unfoldable pub feeds_text : Feeds → List ℕ
 feeds_text feeds = line (codes "feeds") (optional feeds.clock ∷ decimal (length feeds.list) ∷ []) ++ each_index (feed_lines feeds.list) (length feeds.list)
 
--- an entry that a text can hold: no line feed is in the words or the line, and the numbers are in range
+-- a text can hold this entry: neither the words nor the line have a line feed, and the numbers are in range
 pub record IsWritable (f : KeptFeed) : Type 0 where
   pub words : Lacks 10 f.words
   pub last : Lacks 10 f.last
   pub journaled : f.journaled ≤ GREATEST_NUMBER
   pub earlier : f.earlier ≤ f.journaled
 
--- feeds that a text can hold: each entry can be written, there are at most `MOST_SENDERS`, and the clock is one of
--- them
+-- a text can hold these feeds: each entry can be written, there are at most `MOST_SENDERS`, and the clock feed, if any,
+-- is one of them
 pub record AreWritable (feeds : Feeds) : Type 0 where
   pub each : All IsWritable feeds.list
   pub few : length feeds.list ≤ MOST_SENDERS

@@ -18,7 +18,7 @@ file_text given inv w feeds = given ++ (mark ++ 10 ∷ (feeds_text feeds ++ stat
 abbrev pub IsFileText : (text given : List ℕ) → Configuration → World → Feeds → Type 0
 IsFileText text given inv w feeds = (state : List ℕ) × (text ≡ given ++ (mark ++ 10 ∷ (feeds_text feeds ++ state))) × IsStateText inv state w
 
--- whole lines after the beginning of a line, none of which is the mark
+-- `line`, which has no line feed, and the text after it are whole lines, none of which is the mark
 abbrev pub HasNoMark : (line : List ℕ) → List ℕ → Type 0
 HasNoMark line [] = line ≡ []
 HasNoMark line (x ∷ xs) = (x ≡ 10 → (line ≢ mark) × HasNoMark [] xs) × (x ≢ 10 → HasNoMark (line ++ x ∷ []) xs)

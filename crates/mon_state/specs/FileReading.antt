@@ -30,7 +30,7 @@ abbrev pub is_feed : Option ℕ → (count : ℕ) → Bool
 is_feed None count = true
 is_feed (Some k) count = nat_lt k count
 
--- the lines of so many feeds, where the clock's number is that of one of them
+-- the lines of `count` feeds, where the clock's number is that of one of them
 abbrev pub with_clock : (at : List ℕ) → Option ℕ → (count : ℕ) → List ℕ → Result (List KeptFeed × List ℕ) Stuck
 with_clock at clock count text = if is_feed clock count then many_at next_feed count [] text else Err (BadValue, at)
 

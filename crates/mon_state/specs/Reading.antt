@@ -1,6 +1,6 @@
--- A text is read from left to right, field by field, up to the first field at fault. In a name `.._at` is a step at the
--- front of a text, which returns the value that it read and the text after it, or the cause and the text from the field
--- at fault on.
+-- A text is read from left to right, field by field, up to the first faulty field. In a name `.._at` is a step at the
+-- front of a text, which returns the value that it read and the text after it, or the cause and the text from the
+-- faulty field on.
 use Rattle.std.specs.Prelude.{ℕ, Bool, true, false, List, [], ◌∷◌, ◌++◌, length, Option, Some, None, Result, Ok, Err, codes, nat_lt, ◌==◌, if◌then◌else◌, slice_get, zero, suc}
 use Rattle.std.specs.Option.{option_map}
 use Rattle.std.specs.Str.{bytes_eq}
@@ -31,7 +31,7 @@ use Rattle.mon_state.specs.declared.version.StateVersion.TheVariants.{One, Two}
 use Rattle.mon_state.specs.Version.{version_of, is_number}
 use Rattle.mon_state.specs.Upgrade.{upgraded}
 
--- why a text is not read on, and the text from the field at fault on
+-- why reading stopped, and the text from the faulty field on
 abbrev pub Stuck : Type 0
 Stuck = StateCause × List ℕ
 
@@ -42,7 +42,7 @@ abbrev pub ◌>>=◌ : {A B : Type 0} → Result A Stuck → (A → Result B Stu
 
 -- ---- a field, and the text after it
 
--- the field and the text after its end, where its end was found
+-- the field and the text after its end, where the end was found; else a bad line
 abbrev pub ended : (at field : List ℕ) → Option (List ℕ) → Result (List ℕ × List ℕ) Stuck
 ended at field None = Err (BadLine, at)
 ended at field (Some rest) = Ok (field, rest)
@@ -68,12 +68,12 @@ rest_after [] text = Some text
 rest_after (x ∷ xs) [] = None
 rest_after (x ∷ xs) (y ∷ ys) = if x == y then rest_after xs ys else None
 
--- the text after, where the text begins as expected
+-- the text after the expected bytes, where they were found; else a bad line
 abbrev pub found_or : (at : List ℕ) → Option (List ℕ) → Result (List ℕ) Stuck
 found_or at None = Err (BadLine, at)
 found_or at (Some rest) = Ok rest
 
--- these bytes, with which the text has to begin here
+-- the text after these bytes; a bad line where the text does not begin with them
 unfoldable pub expect_at : (expected : List ℕ) → List ℕ → Result (List ℕ) Stuck
 expect_at expected text = found_or text (rest_after expected text)
 
@@ -81,7 +81,7 @@ expect_at expected text = found_or text (rest_after expected text)
 unfoldable pub number_of : List ℕ → Option ℕ
 number_of text = if is_number text then Some (digits_value 10 text) else None
 
--- what the field at the front of a text spells, or a line of another form
+-- the value that the field at the front of a text spells; a bad line where it spells none
 abbrev pub some_or : {A : Type 0} → (at : List ℕ) → Option A → Result A Stuck
 some_or at None = Err (BadLine, at)
 some_or at (Some x) = Ok x
@@ -155,15 +155,15 @@ active_at text = do
   until ← number_at 59 since.1
   Ok (Active since.0 until.0, until.1)
 
--- the fields of the two moments after another fate, which may be empty. A moment in them is not refused here: the text
--- that is written again shows it.
+-- the two fields of moments after any other fate, each of which may be empty. A moment in them is not refused here,
+-- but by the comparison with the text as it would be written.
 unfoldable pub inactive_at : Fate → List ℕ → Result (Fate × List ℕ) Stuck
 inactive_at fate text = do
   since ← optional_at 59 text
   until ← optional_at 59 since.1
   Ok (fate, until.1)
 
--- the moments after this word, which has to be that of a fate
+-- the fate with this word, and its moments; a bad line where no fate has the word
 abbrev pub fate_of : (at word : List ℕ) → List ℕ → Result (Fate × List ℕ) Stuck
 fate_of at word text = if bytes_eq word (codes "pending") then inactive_at Pending text else (if bytes_eq word (codes "over") then inactive_at Over text else (if bytes_eq word (codes "active") then active_at text else Err (BadLine, at)))
 
@@ -187,7 +187,7 @@ names_at spec text = do
   rest ← name_at spec.host text
   name_at (or_empty spec.service) rest
 
--- the names of the object of this index, which has to be there
+-- the index of an object, and the text after its names; a bad value where no object has the index
 abbrev pub names_of : (at : List ℕ) → Option ObjectSpec → ℕ × List ℕ → Result (ℕ × List ℕ) Stuck
 names_of at None n = Err (BadValue, at)
 names_of at (Some spec) n = do
@@ -210,7 +210,7 @@ head_of host (Some name) text = do
   rest ← name_at host rest
   name_at name rest
 
--- the moments of an object in this status, where the text has this clock; those of version 1 are those of an upgrade
+-- the moments of an object in this status, where the text has this clock; version 1 has those of an upgrade
 unfoldable pub moments_at : StateVersion → (clock : ℕ) → Status → List ℕ → Result (Moments × List ℕ) Stuck
 moments_at One clock status text = Ok (upgraded clock status, text)
 moments_at Two clock status text = do
@@ -371,8 +371,8 @@ count_at word text = do
   text ← expect_at word text
   number_at 10 text
 
--- the world that the text after the heading spells, but for the line `end`: the text that is written again shows that
--- line
+-- the world that the text after the heading spells. The line `end` is not read here, but compared with the text as it
+-- would be written.
 unfoldable pub world_at : StateVersion → Configuration → List ℕ → Result World Stuck
 world_at version inv text = do
   clock ← count_at (codes "clock;") text

@@ -68,7 +68,7 @@ impl<'a> Cursor<'a> {
         }
     }
 
-    /// Reads the bytes before the next semicolon, and moves after the semicolon. Where there is none in the line, returns
+    /// Reads the bytes before the next semicolon, and moves after the semicolon. Where the line has none, returns
     /// `BadLine`.
     #[tactic(auto, unfolding(crate::specs::Reading::word_at))]
     pub fn word(&mut self) -> Result<&'a [u8], StateCause>
@@ -82,8 +82,8 @@ impl<'a> Cursor<'a> {
         }
     }
 
-    /// Moves after these bytes, with which the unread bytes have to begin. Where they do not, returns `BadLine` and the
-    /// unread bytes are unchanged.
+    /// Moves after these bytes. Where the unread bytes do not begin with them, returns `BadLine`, and the unread bytes
+    /// are unchanged.
     #[tactic(auto, unfolding(crate::specs::Reading::expect_at))]
     pub fn expect(&mut self, expected: &[u8]) -> Result<(), StateCause>
         ensures { Gives (λ _. self.new.rest) self.new.last result (expect_at expected.now self.old.rest) }

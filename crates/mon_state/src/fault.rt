@@ -11,11 +11,11 @@ use std::alloc::AllocFailed;
 /// See the example of [`StateFault`].
 #[derive(Clone, Copy, Debug, PartialEq, Eq)]
 pub enum StateCause {
-    /// The line does not have the required form: it is missing, its word, a name of the inventory, a number or another
-    /// field is not the required one, or a field does not end in it.
+    /// The line does not have the required form: it is missing; or its word, a name of the inventory, a number or
+    /// another field is not the required one; or a field does not end in this line.
     BadLine,
-    /// A number is out of range, an id is out of order, or the part of the state in this line does not fit the inventory
-    /// for another reason ([`Misfit`](mon_engine::Misfit)).
+    /// A number is out of range, an id is out of order, or the part of the state in this line does not fit the
+    /// inventory for another reason ([`Misfit`](mon_engine::Misfit)).
     BadValue,
     /// The same state would be written with another line here: the line has a leading zero or a wrong count, or is
     /// after the line `end`.

@@ -1,4 +1,4 @@
-//! The part of the file `state` for the feeds of a state directory, written and read back. It has the words, the counts
+//! The part of the file `state` for the feeds of a state directory, written and read back. It has the name, the counts
 //! of journaled commands and the last command of each feed, and the number of the clock feed. If memory runs out, a
 //! `put_..` leaves a part of the lines in `out`; a `read_..` moves the cursor after the lines that it read.
 ghost use Rattle.std.specs.Prelude.{◌≡◌, ◌≢◌, ◌++◌, [], Some, length, IfOk, IfErr, OnOk, OnErr};
@@ -25,7 +25,7 @@ use std::marker::Model;
 /// See the example of [`read_feeds`].
 #[derive(Drop)]
 pub struct KeptFeed {
-    /// The name of the feed: its path, as the command line has it; empty for the clock feed.
+    /// The name of the feed: its path as given on the command line; empty for the clock feed.
     pub words: Text,
     /// The number of commands of the feed that were journaled.
     pub journaled: u64,

@@ -1,6 +1,6 @@
 //! The fields of a line, by their kinds. Each method reads the next field and moves the cursor after the byte that ends
-//! the field (`end`), also where the field has a fault. Where there is no such byte, the method returns `BadLine` and
-//! the unread bytes are unchanged.
+//! the field (`end`), even if the field is faulty. Where there is no such byte, the method returns `BadLine` and the
+//! unread bytes are unchanged.
 ghost use Rattle.std.specs.Prelude.{◌≡◌, ◌≤◌, IfOk};
 ghost use Rattle.mon_state.specs.Reading.{number_at, small_at, optional_of, optional_at, optional_code_at, flag_of, flag_at, acknowledgement_of, acknowledgement_at, active_at, inactive_at, fate_at, name_at, count_at};
 ghost use Rattle.mon_state.specs.Cursors.{Gives};
@@ -129,7 +129,7 @@ impl Cursor<'_> {
         }
     }
 
-    /// Reads the two moments of an active downtime. Where it returns an error, the first of them may be read.
+    /// Reads the two moments of an active downtime. After an error the cursor may be after the first moment.
     #[tactic(auto, unfolding(crate::specs::Reading::active_at))]
     fn active(&mut self) -> Result<Fate, StateCause>
         ensures { Gives (λ f. (f, self.new.rest)) self.new.last result (active_at self.old.rest) }
@@ -139,8 +139,8 @@ impl Cursor<'_> {
         Ok(Fate::Active { since, until })
     }
 
-    /// Reads the two fields of moments after this fate, each of which may be empty. Where it returns an error, the first
-    /// of them may be read.
+    /// Reads the two fields of moments after this fate, each of which may be empty. After an error the cursor may be
+    /// after the first field.
     #[tactic(auto, unfolding(crate::specs::Reading::inactive_at))]
     fn inactive(&mut self, fate: Fate) -> Result<Fate, StateCause>
         ensures { Gives (λ f. (f, self.new.rest)) self.new.last result (inactive_at fate self.old.rest) }
@@ -150,8 +150,8 @@ impl Cursor<'_> {
         Ok(fate)
     }
 
-    /// Reads the three fields of a downtime's fate: its word and two moments, which a downtime that is not active lacks.
-    /// Where it returns an error, a part of the fields may be read.
+    /// Reads the three fields of a downtime's fate: its word and two moments, which are empty unless the downtime is
+    /// active. After an error the cursor may be after some of the fields.
     #[tactic(auto, unfolding(crate::specs::Reading::fate_at))]
     pub fn fate(&mut self) -> Result<Fate, StateCause>
         ensures { Gives (λ f. (f, self.new.rest)) self.new.last result (fate_at self.old.rest) }
@@ -168,7 +168,7 @@ impl Cursor<'_> {
         }
     }
 
-    /// Moves after this name and a semicolon, with which the unread bytes have to begin; else returns `BadLine`. Where
+    /// Moves after this name and a semicolon; returns `BadLine` where the unread bytes do not begin with them. Where
     /// only the semicolon is missing, the cursor is after the name.
     pub fn name(&mut self, name: &[u8]) -> Result<(), StateCause>
         ensures { Gives (λ _. self.new.rest) self.new.last result (name_at name.now self.old.rest) }

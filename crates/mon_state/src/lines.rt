@@ -64,8 +64,8 @@ fn read_head(cursor: &mut Cursor<'_>, spec: &ObjectSpec) -> Result<(), StateCaus
     }
 }
 
-/// The moments of an object in this status that a text of version 1 with this clock is taken to have: it was never
-/// checked, and is as it is since the clock.
+/// The moments that an object in this status gets from a text of version 1 with this clock: it was never checked, and
+/// its last change was at the clock.
 fn upgraded(clock: u64, status: Status) -> Moments
     ensures { result ≡ upgraded clock status }
 {
@@ -80,8 +80,8 @@ fn upgraded(clock: u64, status: Status) -> Moments
     }
 }
 
-/// Reads the moments of an object in this status, each of which may be empty but that of the last change; a text of
-/// version 1 with this clock has no such fields.
+/// Reads the moments of an object in this status; any of them may be empty except that of the last change. A text of
+/// version 1 has no such fields: its moments follow from its clock.
 #[tactic(auto, unfolding(crate::specs::Reading::moments_at))]
 fn read_moments(
     cursor: &mut Cursor<'_>,

@@ -128,8 +128,8 @@ fn put_object(
     )
 }
 
-/// Appends the lines of the state for all objects in this version, in order of the inventory. If memory runs out, a part of the lines
-/// is in `out`.
+/// Appends the lines of the state for all objects in this version, in order of the inventory. If memory runs out, a
+/// part of the lines is in `out`.
 pub fn put_objects(
     out: &mut Vec<u8>,
     version: StateVersion,

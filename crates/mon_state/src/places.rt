@@ -44,8 +44,8 @@ pub struct Counts {
 }
 
 impl Counts {
-    /// The number, from 1, of the line in which a part of such a state stands. Requires that it fits into 64 bits, as
-    /// that of a first misfit does.
+    /// The number, from 1, of the line with this part of such a state. Requires that this number fits into 64 bits, as
+    /// it does for the first misfit of a state.
     pub fn line_of(self, part: Misfit) -> u64
         requires { line_of_part self.objects self.contacts self.comments part < 2 ^ 64 }
         ensures { result ≡ line_of_part self.objects self.contacts self.comments part }

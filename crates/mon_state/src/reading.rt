@@ -26,8 +26,8 @@ use mon_notes::Comment;
 use mon_notify::ContactSwitch;
 use std::alloc::Global;
 
-/// Reads the lines of all objects in a text of this version with this clock, in the order of the inventory, and moves the
-/// cursor after them.
+/// Reads the lines of all objects in a text of this version with this clock, in the order of the inventory, and moves
+/// the cursor after them.
 fn read_objects(
     alloc: Global,
     cursor: &mut Cursor<'_>,
@@ -158,15 +158,15 @@ fn compare_with_text(
 }
 
 /// Reads a state, as [`write_state`](crate::write_state) writes it, and makes the monitor of the inventory that resumes
-/// from it: it counts its entries from 0, and lists no rejection and no notice (profile). A state of version 1 is read too:
-/// its objects were never checked, and are as they are since its clock. Any other text is refused,
-/// with the line in which the first faulty field begins; else with the line of the first part that does not fit the
-/// inventory (see [`Misfit`](mon_engine::Misfit)); else with the first line that would be written differently. Where it
-/// returns an error, the inventory is dropped. The memory that it takes is linear in the length of the text.
+/// from it: it counts its entries from 0, and lists no rejection and no notice (profile). A state of version 1 is read
+/// too: its objects were never checked, and their last change was at its clock. Any other text is refused, with the
+/// line in which the first faulty field begins; else with the line of the first part that does not fit the inventory
+/// (see [`Misfit`](mon_engine::Misfit)); else with the first line that would be written differently. After an error the
+/// inventory is dropped. The memory that the call takes is linear in the length of the text.
 ///
 /// # Errors
-/// The line, counted from 1, and the [`StateCause`]; it is [`StateCause::Memory`] if memory runs out, which it does only
-/// behind a heading of a known version.
+/// The line, counted from 1, and the [`StateCause`]; it is [`StateCause::Memory`] if memory runs out, which happens
+/// only after a heading of a known version.
 ///
 /// ```
 /// // state: what write_state wrote of a monitor of INVENTORY

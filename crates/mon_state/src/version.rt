@@ -14,9 +14,9 @@ use cmd_types::cut;
 /// See the example of [`StateFault`].
 #[derive(Clone, Copy)]
 pub enum StateVersion {
-    /// Without the moments of objects; it is read, and not written.
+    /// Without the moments of objects; [`write_state`](crate::write_state) never writes this version.
     One,
-    /// With them: the text that is written.
+    /// With the moments of objects; [`write_state`](crate::write_state) writes this version.
     Two,
 }
 

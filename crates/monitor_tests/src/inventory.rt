@@ -231,8 +231,15 @@ const OPTION: &[Row] = &[
         0,
         0,
     ),
+    (b"option;tell_by_clock;0", 0, 0),
+    (
+        b"option;tell_by_clock;1\noption;passive_host_checks_are_soft;0",
+        0,
+        0,
+    ),
     (b"option;soft;1", 1, 1),
     (b"option;;1", 1, 1),
+    (b"option;tell_by_clocks;1", 1, 1),
     (b"option;passive_host_checks_are_sof;1", 1, 1),
     (b"option", 1, 1),
     (b"option;passive_host_checks_are_soft", 1, 1),
@@ -243,6 +250,8 @@ const OPTION: &[Row] = &[
     (b"option;passive_host_checks_are_soft;on", 1, 2),
     (b"option;passive_host_checks_are_soft;00", 1, 2),
     (b"option;passive_host_checks_are_soft;01", 1, 2),
+    (b"option;tell_by_clock;2", 1, 2),
+    (b"option;tell_by_clock;1\noption;tell_by_clock;0", 2, 4),
     (
         b"option;passive_host_checks_are_soft;0\n\noption;passive_host_checks_are_soft;0",
         3,
@@ -256,7 +265,7 @@ const OPTION: &[Row] = &[
 ];
 
 #[test]
-fn the_option_stands_anywhere_and_once(rt: HostRuntime) {
+fn an_option_stands_anywhere_and_once(rt: HostRuntime) {
     expect_faults(rt.alloc(), &rt, OPTION);
 }
 
@@ -277,6 +286,152 @@ fn hosts_are_soft_where_the_option_says_so(rt: HostRuntime) {
         let inventory = inventory_of(&rt, text);
         same(&rt, inventory.passive_hosts_soft(), *soft);
         same(&rt, inventory.is_on(b"obsess_over_hosts"), false);
+    }
+}
+
+const SETTLE: &[Row] = &[
+    (b"settle;1", 0, 0),
+    (
+        b"host;web;1;0;;\nsettle;1099511627775\r\nhost;db;1;0;;",
+        0,
+        0,
+    ),
+    (b"settle", 1, 1),
+    (b"settle;1;", 1, 1),
+    (b"settles;1", 1, 1),
+    (b"settle;", 1, 2),
+    (b"settle;0", 1, 2),
+    (b"settle;-1", 1, 2),
+    (b"settle;1099511627776", 1, 2),
+    (b"settle;60\n\nsettle;60", 3, 4),
+    (b"settle;60\nsettle;0", 2, 2),
+];
+
+#[test]
+fn settle_stands_anywhere_and_once(rt: HostRuntime) {
+    expect_faults(rt.alloc(), &rt, SETTLE);
+}
+
+const DELAY: &[Row] = &[
+    (b"host;web;1;0;;\ndelay;web;;1", 0, 0),
+    (
+        b"host;web;1;0;;\nservice;web;http;1;0;;\ndelay;web;http;1\ndelay;web;;1",
+        0,
+        0,
+    ),
+    (
+        b"host;web;1;0;;\nhost;db;1;0;;\nservice;web;x;1;0;;\nservice;db;x;1;0;;\ndelay;web;x;1\ndelay;db;x;1",
+        0,
+        0,
+    ),
+    (b"host;web;1;0;;\ndelay;web;1", 2, 1),
+    (b"host;web;1;0;;\ndelay;web;;1;", 2, 1),
+    (b"host;web;1;0;;\ndelays;web;;1", 2, 1),
+    (b"host;web;1;0;;\ndelay;;;1", 2, 1),
+    (b"host;web;1;0;;\ndelay;;;0", 2, 1),
+    (b"host;web;1;0;;\ndelay;web;;", 2, 2),
+    (b"host;web;1;0;;\ndelay;web;;0", 2, 2),
+    (b"host;web;1;0;;\ndelay;web;;1099511627776", 2, 2),
+    (b"delay;web;;0", 1, 2),
+    (b"host;web;1;0;;\ndelay;web;;1\ndelay;web;;0", 3, 2),
+    (b"host;web;1;0;;\ndelay;web;;1\ndelay;web;;2", 3, 4),
+    (
+        b"host;web;1;0;;\nservice;web;http;1;0;;\ndelay;web;http;1\nvolatile;web;http\ndelay;web;http;1",
+        5,
+        4,
+    ),
+    (b"delay;web;;1\nhost;web;1;0;;", 1, 5),
+    (b"delay;web;http;1", 1, 5),
+    (b"host;web;1;0;;\ndelay;web;http;1", 2, 6),
+    (
+        b"host;web;1;0;;\ndelay;web;http;1\nservice;web;http;1;0;;",
+        2,
+        6,
+    ),
+];
+
+#[test]
+fn an_object_has_one_delay(rt: HostRuntime) {
+    expect_faults(rt.alloc(), &rt, DELAY);
+}
+
+const VOLATILE: &[Row] = &[
+    (
+        b"host;web;1;0;;\nservice;web;http;1;0;;\nvolatile;web;http\ndelay;web;http;1",
+        0,
+        0,
+    ),
+    (
+        b"host;web;1;0;;\nservice;web;x;1;0;;\nservice;web;y;1;0;;\nvolatile;web;x\nvolatile;web;y",
+        0,
+        0,
+    ),
+    (b"host;web;1;0;;\nvolatile;web", 2, 1),
+    (b"host;web;1;0;;\nvolatile;web;http;", 2, 1),
+    (b"host;web;1;0;;\nvolatiles;web;http", 2, 1),
+    (b"host;web;1;0;;\nvolatile;web;", 2, 1),
+    (b"host;web;1;0;;\nvolatile;;http", 2, 1),
+    (
+        b"host;web;1;0;;\nservice;web;http;1;0;;\nvolatile;web;http\nvolatile;web;http",
+        4,
+        4,
+    ),
+    (b"volatile;web;http\nhost;web;1;0;;", 1, 5),
+    (b"host;web;1;0;;\nvolatile;web;http", 2, 6),
+    (
+        b"host;web;1;0;;\nhost;db;1;0;;\nservice;db;http;1;0;;\nvolatile;web;http",
+        4,
+        6,
+    ),
+];
+
+#[test]
+fn a_service_is_made_volatile_once(rt: HostRuntime) {
+    expect_faults(rt.alloc(), &rt, VOLATILE);
+}
+
+const FURTHER: &[u8] = b"host;web;1;0;;
+service;web;http;1;0;;
+delay;web;http;300
+host;db;1;0;;
+volatile;web;http
+service;web;ssh;1;0;;
+delay;db;;20
+volatile;web;ssh
+";
+
+/// Of each object its first notification delay, and whether it is volatile.
+const FURTHER_SAID: &[(Option<u64>, bool)] = &[
+    (None, false),
+    (Some(300), true),
+    (Some(20), false),
+    (None, true),
+];
+
+#[test]
+fn further_lines_are_of_their_object(rt: HostRuntime) {
+    let inventory = inventory_of(&rt, FURTHER);
+    same(&rt, inventory.object_count(), 4);
+    for object in 0..inventory.object_count() {
+        let directives = inventory.directives(object);
+        let found = (directives.first_notification_delay, directives.is_volatile);
+        let said = FURTHER_SAID.get(object as usize).copied();
+        same(&rt, (object, Some(found)), (object, said));
+    }
+}
+
+const SETTLED: &[(&[u8], Option<u64>)] = &[
+    (b"", None),
+    (b"host;web;1;0;;\ndelay;web;;20", None),
+    (b"settle;300", Some(300)),
+    (b"settle;0000000000300\nhost;web;1;0;;", Some(300)),
+];
+
+#[test]
+fn settle_is_what_its_line_says(rt: HostRuntime) {
+    for (text, settle) in SETTLED {
+        let inventory = inventory_of(&rt, text);
+        same(&rt, (*text, inventory.settle()), (*text, *settle));
     }
 }
 

@@ -1,5 +1,5 @@
-//! Options and feeds at the ends of their ranges: how often and how much is read, how many are read at
-//! once, and what each journals.
+//! Options and feeds at the ends of their ranges: the number and size of reads, the number of feeds, and the commands
+//! that are journaled.
 ghost use Rattle.std.specs.Prelude.{None, true, false};
 
 use super::{Fail, Feed, FeedFailed, OPTIONS, check_run, check_run_alike, feeds, ring};
@@ -32,7 +32,7 @@ fn the_end_is_a_read_too(rt: HostRuntime) -> Result<(), Fail> {
     Ok(())
 }
 
-/// A feed without bytes, whose read fails where it requests another number of bytes.
+/// A feed without bytes, whose read fails where another number of bytes is requested.
 #[derive(Drop)]
 struct PieceFeed {
     bytes: usize,

@@ -1,4 +1,4 @@
-//! A feed whose file is not there yet, or cannot be opened. Its reader looks again each second. Where the run can be
+//! A feed whose file does not exist yet, or cannot be opened. Its reader checks again each second. Where the run can be
 //! renewed, the next run opens the file; in any other run the reader itself does.
 use super::error_streams::print;
 use super::gate::Gate;
@@ -17,20 +17,20 @@ use std::os::unix::fs::FileTypeExt;
 use std::rt::Files;
 use std::sync::Wait;
 
-/// A feed without a file that can be read. Nothing of it was read yet in this run.
+/// A feed without a readable file. Nothing of it was read yet in this run.
 #[derive(Drop)]
 pub struct Absent<'a, R: Files> {
     rt: &'a R,
     alloc: Global,
     signal: &'a Signal<'a, R>,
     gate: &'a Gate<'a, R>,
-    /// Whether no command was journaled of the feed, so that it is read from its beginning.
+    /// Whether no command of the feed was journaled, so that it is read from its beginning.
     is_new: bool,
 }
 
 impl<'a, R: FeedSystem> Absent<'a, R> {
-    /// The feed of this gate. Prints to the error stream that it is not there, or cannot be opened, unless an earlier
-    /// run of the process printed that.
+    /// Makes the feed of this gate. Prints to the error stream that its file does not exist or cannot be opened, unless
+    /// an earlier run of the process printed that.
     ///
     /// Believed: the line is printed once, until the feed has been opened (premise 12; absent-feed).
     pub fn new(
@@ -60,8 +60,8 @@ impl<'a, R: FeedSystem> Absent<'a, R> {
         }
     }
 
-    /// Whether the file of the feed can be opened now. A pipe is held open for the next run from then on, so that no
-    /// writer that waited for a reader loses it again.
+    /// Whether the file of the feed can be opened now. If it is a pipe, it is held open for the next run from then on,
+    /// so that a writer that waited for a reader does not lose the reader again.
     ///
     /// Believed: the next run opens the file too (premises 8 and 10; absent-feed).
     fn can_open(&self) -> bool {

@@ -30,14 +30,14 @@ pub struct Attending<'a, R: Files + ErrorStreams> {
     pub care: Care,
     /// The system's clock when it was last read, in seconds.
     now: AtomicU64,
-    /// True while no line of the feed was refused.
+    /// Whether no line of the feed was refused so far.
     pub is_clean: bool,
     /// The writer on the error stream that gets the refused lines, and nothing else.
     pub refusals: R::Stream,
     /// The state of `refusals` before the first line. It exists for the proof alone.
     pub first: Snapshot<R::Stream>,
-    /// True once `refusals` did not take the whole of a line, or a line came while the run was ending: no line is
-    /// written from then on.
+    /// True once `refusals` did not take a whole line, or a line came while the run was ending: no line is written from
+    /// then on.
     pub is_cut: bool,
     /// True once a command that waited was left to the next run.
     is_left: bool,
@@ -117,9 +117,9 @@ impl<'a, R: FeedSystem> Attending<'a, R> {
         }
     }
 
-    /// Blocks the sender's thread until `time`, which is `seconds` seconds ahead of the system's clock, is at most
-    /// `care.ahead` ahead, or until the run has failed. First prints to the error stream that the command waits. Returns
-    /// false where the next run is to begin, to which the command is left.
+    /// Blocks the sender's thread until `time`, which is now `seconds` seconds ahead of the system's clock, is at most
+    /// `care.ahead` seconds ahead, or until the run has failed. First prints to the error stream that the command
+    /// waits. Returns false where the next run is to begin, to which the command is left.
     ///
     /// Believed: no other feed waits for this one meanwhile, nor does the next run (premise 11; follow-ahead,
     /// ahead-rotation).
@@ -151,9 +151,10 @@ impl<'a, R: FeedSystem> Attending<'a, R> {
         true
     }
 
-    /// Shows the refused line of this number, counted from 1 in this run, on the error stream, where that is asked for.
+    /// Shows the refused line of this number, counted from 1 in this run, on the error stream, where the call asks for
+    /// that.
     ///
-    /// Believed: it is shown behind the line that it was refused, with its own bytes (premises 2 and 12; verbose).
+    /// Believed: it is shown after the line on its refusal, with its own bytes (premises 2 and 12; verbose).
     fn show(&self, line: u64, fault: LineFault) {
         for gate in &self.signal.gates {
             if gate.feed == self.care.feed
@@ -164,7 +165,7 @@ impl<'a, R: FeedSystem> Attending<'a, R> {
         }
     }
 
-    /// Looks at the name of the feed's file, which its reader does not while a command waits.
+    /// Checks the name of the feed's file, which the reader does not do while a command waits.
     ///
     /// Believed: as [`Gate::note_name`] (ahead-rotation).
     fn note_name(&self) {
@@ -175,8 +176,8 @@ impl<'a, R: FeedSystem> Attending<'a, R> {
         }
     }
 
-    /// Leaves the line of this number, counted from 1 in this run, and what was read behind it to the next run. The file is
-    /// read again from there, whatever its name is then; a pipe's bytes are kept.
+    /// Leaves the line of this number, counted from 1 in this run, and the bytes read after it to the next run. A file
+    /// is read again from there, whatever its name is then; the bytes of a pipe are kept.
     ///
     /// Believed: no command of these lines was sent (premise 11; ahead-rotation).
     fn leave(&self, line: u64) {
@@ -223,8 +224,8 @@ where
     /// behind. It waits for the clock where `time` is more than `care.ahead` seconds ahead of it and `care.ahead` is
     /// not 0.
     ///
-    /// Believed: a command that is too far ahead waits, and one that another of the backlog comes before; no other one
-    /// does (premises 9 and 11; follow-ahead, wrong-clock, follow-backlog).
+    /// Believed: a command waits that is too far ahead, or that another command of the backlog comes before; no other
+    /// command waits (premises 9 and 11; follow-ahead, wrong-clock, follow-backlog).
     fn must_wait(&mut self, time: u64) -> bool {
         if self.seconds_ahead(time) > 0 {
             return true;
@@ -234,9 +235,9 @@ where
     }
 
     /// Blocks the sender's thread until `time` is at most `care.ahead` seconds ahead of the system's clock, and then
-    /// until no command of a feed that is behind comes first; or until the run has failed. Prints to the error stream
-    /// that the command waits for the clock, where it does. Fails where the next run begins while it waits: the command
-    /// and what its reader gave behind it are left to that run.
+    /// until no command of a feed that is behind comes first; or until the run has failed. Where the command waits for
+    /// the clock, prints that to the error stream. Fails where the next run begins while it waits: the command and the
+    /// bytes that its reader passed on after it are left to that run.
     ///
     /// Believed: the wait ends once the system's clock has caught up and the backlog has come to this command, or the
     /// run ends (premises 9 and 11; follow-ahead, follow-backlog, ahead-rotation).

@@ -28,7 +28,7 @@ enum Next {
     Unknown,
     /// It has this time, in seconds, and its sender waits for its turn.
     At(u64),
-    /// It is ahead of the system's clock, for which its sender waits.
+    /// It is ahead of the system's clock, and its sender waits for the clock.
     Ahead,
 }
 
@@ -58,8 +58,8 @@ impl Standing {
         lasts(self.reading, QUIET) || lasts(self.first, LONGEST)
     }
 
-    /// The place in the order of the next command of the feed `number`, while others have to wait for it; else `None`.
-    /// A command that is not read yet comes before all others.
+    /// The place in the order of the next command of the feed `number`, while other senders have to wait for it; else
+    /// `None`. A command that is not read yet comes before all others.
     fn place(&self, number: usize) -> Option<(u64, usize)>
         ensures behind { self.now.is_behind ≡ false → result ≡ None }
         ensures ahead { self.now.next ≡ Ahead → result ≡ None }
@@ -74,8 +74,8 @@ impl Standing {
     }
 }
 
-/// The first place in the order among the feeds that are behind, without the feed `but`; `None` where no other sender
-/// has to wait.
+/// The first place in the order among the feeds that are behind, other than the feed `but`; `None` where there is no
+/// such place to wait for.
 ///
 /// Believed: it is the smallest of these places (tests of `backlog`, follow-backlog).
 fn first_place(feeds: &[Standing], but: usize) -> Option<(u64, usize)> {
@@ -272,8 +272,8 @@ impl Backlog {
         }
     }
 
-    /// Releases the streams that have waited long enough, and returns whether no feed is behind any more but those whose
-    /// command waits for the system's clock.
+    /// Releases the streams that have waited long enough, and returns whether the only feeds still behind, if any, are
+    /// those whose command waits for the system's clock.
     ///
     /// Believed: true once each feed has caught up or waits for the clock (premises 9 and 11; tests of `backlog`,
     /// follow-backlog).

@@ -1,5 +1,5 @@
-//! A file that may have had the name of a feed before a rotation. The numbers or dates in the names of such files, and the
-//! times at which they were written, give the order in which they had the name. No file is changed.
+//! A file that may have had the name of a feed before a rotation. The numbers or dates in the names of such files, and
+//! the times at which they were written, give the order in which they had the name. No file is changed.
 ghost use Rattle.std.specs.Prelude.{◌≡◌, Some, true, slice_get};
 
 use super::gate::node_of;
@@ -15,14 +15,16 @@ use std::fs::OpenFile;
 use std::io::{Read, Seek, SeekFrom};
 use std::time::SystemTime;
 
-/// How many bytes at the end of a file are read first to find its last command: a choice, for several of the longest lines.
+/// The number of bytes at the end of a file that are read first to find its last command: a choice, with room for
+/// several of the longest lines.
 const TAIL: u64 = 65_536;
 
-/// How many bytes are read where these have no command: a choice, which bounds the memory. Many refused lines fit.
+/// The number of bytes that are read where the first ones have no command: a choice, which bounds the memory and has
+/// room for many refused lines.
 const LONG_TAIL: u64 = 16_777_216;
 
-/// Whether a file was renamed to the end `found` in a later rotation than one to the end `old`: it has a smaller number
-/// behind a point, or a later date behind a dash.
+/// Whether the suffix `found` comes from a later rotation than the suffix `old`: it has a smaller number after a point,
+/// or a later date after a dash.
 ///
 /// Believed: numbers fall with later rotations, and dates rise (no premise; rotation).
 fn is_later(old: &[u8], found: &[u8]) -> bool {
@@ -32,7 +34,7 @@ fn is_later(old: &[u8], found: &[u8]) -> bool {
     is_date(old) && is_date(found) && old.len() == found.len() && found > old
 }
 
-/// Whether the end of a name is a dash and a date, of digits and further dashes.
+/// Whether the suffix of a name is a dash and a date of digits and further dashes.
 fn is_date(end: &[u8]) -> bool
     ensures { result ≡ true → slice_get end.now 0 ≡ Some 45 }
 {
@@ -44,7 +46,7 @@ fn is_date(end: &[u8]) -> bool
 
 /// The last command of these lines; `None` where there is none, or memory runs out.
 ///
-/// Believed: no command after it is passed over (no premise; quick-rotations).
+/// Believed: no later command is missed (no premise; quick-rotations).
 fn last_command(alloc: Global, text: &[u8]) -> Option<Stamped> {
     if text.len() as u64 > MOST_FED {
         return None;
@@ -62,28 +64,28 @@ fn last_command(alloc: Global, text: &[u8]) -> Option<Stamped> {
     last
 }
 
-/// What the order of old files is taken from.
+/// The facts that give the order of old files.
 #[derive(Drop)]
 pub struct Renamed {
-    /// What stands in the name of the file behind that of the feed.
+    /// The suffix of the file's name after the name of the feed.
     pub end: Vec<u8>,
-    /// When the file was made; `None` where its file system does not say so.
+    /// When the file was created; `None` where its file system does not say so.
     pub made: Option<SystemTime>,
-    /// When the file was written last.
+    /// When the file was last written.
     pub written: SystemTime,
 }
 
 impl Renamed {
-    /// Whether this file can have got the name of the feed after `other`: it was not written last before `other`, or it
-    /// was written after `other` was made.
+    /// Whether this file can have got the name of the feed after `other`: its last write is not before that of `other`,
+    /// or is after the creation of `other`.
     ///
-    /// Believed: a line that is late in `other` does not hide this file (premise 8; quick-rotations).
+    /// Believed: a late line in `other` does not exclude this file (premise 8; quick-rotations).
     fn is_after(&self, other: &Renamed) -> bool {
         self.written >= other.written || other.made.is_some_and(|made| self.written > made)
     }
 }
 
-/// A file that may have been one of the feed.
+/// A file that the feed may have been read from.
 #[derive(Drop)]
 pub struct Candidate<F: Drop> {
     pub file: F,
@@ -99,9 +101,9 @@ impl<F: OpenFile + Read + Seek + Drop> Candidate<F> {
         node_of(&self.file) == Some(node)
     }
 
-    /// The start behind these commands, where they were journaled of this file; the file is positioned there.
+    /// The start after these commands, where they were journaled of this file; the file is positioned there.
     ///
-    /// Believed: no command behind them is passed over (premise 1; rotation).
+    /// Believed: no command after them is skipped (premise 1; rotation).
     pub fn start_behind(&mut self, alloc: Global, known: &Known<'_>) -> Option<Start> {
         let start = find_start(alloc, &mut self.file, *known)?;
         if start == Start::Anew {
@@ -113,7 +115,7 @@ impl<F: OpenFile + Read + Seek + Drop> Candidate<F> {
 
     /// The last command in the last `tail` bytes of this file. The file is left at its end.
     ///
-    /// Believed: no command after it is passed over (premise 1; quick-rotations).
+    /// Believed: no later command is missed (premise 1; quick-rotations).
     fn last_command(&mut self, alloc: Global, tail: u64) -> Option<Stamped> {
         let from = self.length.saturating_sub(tail);
         self.file.seek(SeekFrom::Start(from)).ok()?;
@@ -123,7 +125,7 @@ impl<F: OpenFile + Read + Seek + Drop> Candidate<F> {
 
     /// Whether the last command of this file has the canonical line `line`.
     ///
-    /// Believed: refused lines behind the command are passed over (premise 1; quick-rotations).
+    /// Believed: refused lines after the command are skipped (premise 1; quick-rotations).
     pub fn ends_with(&mut self, alloc: Global, line: &[u8]) -> bool {
         let last = match self.last_command(alloc, TAIL) {
             Some(last) => Some(last),
@@ -136,7 +138,7 @@ impl<F: OpenFile + Read + Seek + Drop> Candidate<F> {
     }
 }
 
-/// When a file was written last.
+/// When a file was last written.
 pub fn written_of<F: Drop>(file: &Candidate<F>) -> SystemTime
     ensures { result ≡ file.now.renamed.written }
 {
@@ -150,7 +152,8 @@ pub fn length_of<F: Drop>(file: &Candidate<F>) -> u64
     file.length
 }
 
-/// Whether the file of the end `found` comes next after that of `end`, of these files, in the order of rotations.
+/// Whether, among these files, the one with the suffix `found` comes next after the one with the suffix `end` in the
+/// order of rotations.
 ///
 /// Believed: as [`is_later`] (quick-rotations).
 fn is_next<F: Drop>(files: &[Candidate<F>], end: &[u8], found: &[u8]) -> bool {
@@ -173,9 +176,9 @@ fn take_next<F: Drop>(files: &mut Vec<Candidate<F>>, end: &[u8]) -> Option<Candi
     Some(files.remove(place))
 }
 
-/// Of these files those that were renamed in rotations after `old`, in this order, each positioned at its beginning.
+/// The files that were renamed in rotations after `old`, in the order of rotations, each positioned at its beginning.
 ///
-/// Believed: no file of an earlier rotation is among them, also where numbers ascend (premise 8; quick-rotations).
+/// Believed: no file of an earlier rotation is among them, even where numbers ascend (premise 8; quick-rotations).
 pub fn later_files<F: Seek + Drop>(
     alloc: Global,
     mut files: Vec<Candidate<F>>,

@@ -1,5 +1,5 @@
-//! What a run leaves to the next run in the same process: each file and pipe, held open, and the bytes that were read of a
-//! pipe and not passed on.
+//! The things that a run leaves to the next run in the same process: each file and pipe, held open, and the bytes that
+//! were read from a pipe and not passed on.
 use super::signal::Signal;
 use super::ticking::Seen;
 use cmd_types::Memory;
@@ -7,7 +7,7 @@ use std::alloc::Global;
 use std::rt::Files;
 use std::sync::Wait;
 
-/// What a run leaves to the next one: of each feed, and what the thread of the clock feed has seen.
+/// What a run leaves to the next one, for each feed and for the thread of the clock feed.
 #[derive(Drop)]
 pub struct CarriedRun<F: Drop> {
     feeds: Vec<Carried<F>>,
@@ -23,19 +23,19 @@ struct Carried<F: Drop> {
     held: Option<F>,
     /// The files that got the name of the feed later.
     later: Vec<F>,
-    /// Whether the file of the feed is read no more, and another file has its name.
+    /// Whether the file of the feed is no longer read, and another file has its name.
     is_replaced: bool,
-    /// Whether the error stream has the line that the file of the feed has lost its name.
+    /// Whether it was printed that the file of the feed has lost its name.
     is_removed: bool,
-    /// Whether the error stream has the line that the feed is absent.
+    /// Whether it was printed that the feed is absent.
     is_absent: bool,
-    /// Whether a command of the feed was left.
+    /// Whether a command of the feed was left to the next run.
     is_left: bool,
     /// Whether the reader of the feed has waited for bytes, so that the feed is not behind any more.
     has_caught_up: bool,
 }
 
-/// Takes what a run leaves. The error is out of memory.
+/// Takes from a run what it leaves to the next one. The error is out of memory.
 ///
 /// Believed: no byte that a pipe holds is lost (premise 10; rotation).
 pub fn take_carried<R: Files + Wait>(
@@ -61,7 +61,7 @@ pub fn take_carried<R: Files + Wait>(
     Ok(CarriedRun { feeds, seen })
 }
 
-/// Passes to a run that has not begun what the run before left.
+/// Passes to a run that has not begun what the previous run left.
 ///
 /// Believed: as [`take_carried`] (rotation).
 pub fn give_carried<R: Files + Wait>(rt: &R, signal: &Signal<'_, R>, carried: CarriedRun<R::File>) {

@@ -1,5 +1,5 @@
-//! A feed that is a regular file which is drained: it is read to the last line feed that it has at the start. Its reader
-//! writes to the error stream that the file was replaced.
+//! A feed that is a regular file and is drained: it is read to the last line feed that it has at the start. If the file
+//! is replaced, its reader prints that to the error stream.
 ghost use Rattle.std.specs.Prelude.{◌≡◌, ◌≤◌, IfOk, length};
 
 use super::error_streams::ErrorStreams;
@@ -11,13 +11,13 @@ use cmd_dispatch::FeedFailed;
 use std::io::{self, Read, Seek, SeekFrom};
 use std::rt::Files;
 
-/// How many bytes one read asks for where the last line feed of a file is searched: a choice, a page.
+/// The most bytes of one read in the search for the last line feed of a file: a choice, a page.
 const PIECE: usize = 4_096;
 
 /// Finds where the last whole line of a file ends, in bytes from its start; 0 where it has no line feed. Searches
 /// backwards in pieces, and moves the position of the file.
 ///
-/// Believed: no line feed stands behind the returned position (premise 1; follow-drain).
+/// Believed: no line feed is after the returned position (premise 1; follow-drain).
 pub fn find_lines_end<F: Read + Seek>(file: &mut F) -> io::Result<u64> {
     let mut end = file.seek(SeekFrom::End(0))?;
     let mut piece = [0u8; PIECE];
@@ -50,13 +50,13 @@ pub struct Drained<'a, R: Files> {
 }
 
 impl<'a, R: Files + ErrorStreams> Drained<'a, R> {
-    /// A reader of the file from the bytes that were read or skipped to the last line feed that the file has now.
-    /// Searches for this line feed, and moves the file back to its position.
+    /// A reader of the file, from the end of the bytes that were read or skipped to the last line feed that the file
+    /// has now. Searches for this line feed, and moves the file back to its position.
     ///
     /// # Errors
     /// The file could not be searched for its last line feed, or could not be moved back to its position.
     ///
-    /// Believed: the position of the file is again behind the bytes that were read or skipped (premise 1;
+    /// Believed: the position of the file is again after the bytes that were read or skipped (premise 1;
     /// follow-drain).
     pub fn new(
         signal: &'a Signal<'a, R>,
@@ -88,7 +88,7 @@ impl<'a, R: Files + ErrorStreams> Drained<'a, R> {
 
     /// Reads the next bytes into the buffer and returns how many they are; 0 at the end of the last line or where the
     /// run has failed. The error is a failed read, a file that has become shorter, or a failed run that ends the text
-    /// in the midst of a line.
+    /// in the middle of a line.
     pub fn next(&mut self, buffer: &mut [u8]) -> Result<usize, FeedFailed>
         ensures bound { IfOk result (λ n. n ≤ length buffer.new) }
     {

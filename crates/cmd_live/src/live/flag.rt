@@ -24,7 +24,7 @@ impl Flag {
         self.value.swap(true, Ordering::SeqCst)
     }
 
-    /// Records the fact where it is `is_set`, and else that it is over.
+    /// Records the fact where `is_set` is true, else that it is over.
     ///
     /// Believed: as [`set`](Flag::set) and [`clear`](Flag::clear) (absent-feed, ahead-rotation).
     pub fn store(&self, is_set: bool) {

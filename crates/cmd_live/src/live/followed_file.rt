@@ -1,4 +1,4 @@
-//! A regular file as a feed: the open file, and what became of the name under which it was opened.
+//! A regular file as a feed: the open file, and the present state of the name under which it was opened.
 ghost use Rattle.std.specs.Prelude.{◌≡◌, ◌≤◌, IfOk, length};
 
 use super::error_streams::{ErrorStreams, report};
@@ -51,11 +51,11 @@ impl<'a, R: Files> FollowedFile<'a, R> {
 /// The present state of the name under which a file was opened.
 #[derive(Clone, Copy, PartialEq, Eq)]
 pub enum NameFate {
-    /// The name is that of the file, or the system does not say.
+    /// The name refers to the file, or the system does not say.
     Same,
-    /// The name is that of another file.
+    /// The name refers to another file.
     Renamed,
-    /// The name is that of no file.
+    /// The name refers to no file.
     Nameless,
 }
 
@@ -82,7 +82,7 @@ impl<'a, R: Files + ErrorStreams> FollowedFile<'a, R> {
         Ok(())
     }
 
-    /// Whether the file is shorter now than the bytes that were read of it; false where the system does not say.
+    /// Whether the file is now shorter than the part of it that was read; false where the system does not say.
     ///
     /// Believed: a file that was cut is noticed unless it has grown back (premise 8; follow-file, cut-file).
     pub fn is_cut(&self) -> bool {
@@ -92,7 +92,7 @@ impl<'a, R: Files + ErrorStreams> FollowedFile<'a, R> {
         }
     }
 
-    /// Returns the present state of the name of the file, as the system says it. Changes nothing.
+    /// Returns the present state of the name of the file, as the system reports it. Changes nothing.
     ///
     /// Believed: `Same` where the file has its name (premise 8; follow-file, rotation).
     pub fn fate(&self) -> NameFate {

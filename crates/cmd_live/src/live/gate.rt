@@ -1,5 +1,5 @@
-//! How the run ends the read of a thread that waits for an empty pipe: it writes a mark into the pipe. The reader
-//! and the thread that wakes it share one state, `Gate::state`, which each of them changes atomically.
+//! Ends the read of a thread that waits for an empty pipe: the run writes a mark into the pipe. The reader and the
+//! thread that wakes it share one state, `Gate::state`, which each of them changes atomically.
 ghost use Rattle.std.specs.Prelude.{◌≡◌};
 
 use super::flag::Flag;
@@ -25,22 +25,22 @@ const AWAY: u64 = 0;
 /// The reader is in a read, or about to begin one.
 const READING: u64 = 1;
 
-/// The reader is to end, and reads no more once its read has ended.
+/// The reader is to end, and does not read again once its read has ended.
 const WOKEN: u64 = 2;
 
 /// The reader is to end, and the mark is being written into its pipe.
 const WRITING: u64 = 3;
 
-/// The reader that was woken has left its read.
+/// The reader was woken and has left its read.
 const LEFT: u64 = 4;
 
-/// How often the state is looked at when a reader is woken: a choice. Meanwhile a reader of a pipe with bytes leaves.
+/// How often the state is checked when a reader is woken: a choice. In this time a reader of a pipe with bytes leaves.
 const LOOKS: u64 = 20;
 
-/// How many milliseconds are between two looks at the state.
+/// The milliseconds between two checks of the state.
 const BETWEEN: u64 = 5;
 
-/// The node of an open file, where it is a regular file and the system says so.
+/// The node of an open file; `None` where it is no regular file, or the system does not say.
 ///
 /// Believed: another file has another node (premise 8; rotation).
 pub fn node_of<F: OpenFile>(file: &F) -> Option<Node> {
@@ -55,15 +55,15 @@ pub fn node_of<F: OpenFile>(file: &F) -> Option<Node> {
 pub enum Leaving {
     /// The reader may read again: no thread has woken it.
     Free,
-    /// The reader was woken, and reads no more.
+    /// The reader was woken, and must not read again.
     Woken,
     /// The reader was woken, and has to read once more: the mark is being written into its pipe, which has no room
     /// for it yet.
     Full,
 }
 
-/// The gate of a feed; a feed that is a pipe, the input or a device uses it. The reader calls `enter` before each read and
-/// `leave` after the read. Once another thread has called `wake`, `enter` returns false.
+/// The gate of a feed, which a feed that is a pipe, the input or a device uses. The reader calls `enter` before each
+/// read and `leave` after the read. Once another thread has called `wake`, `enter` returns false.
 #[derive(Drop)]
 pub struct Gate<'a, R: Files> {
     alloc: Global,
@@ -72,27 +72,28 @@ pub struct Gate<'a, R: Files> {
     pub feed: u64,
     /// One of the five constants above.
     state: AtomicU64,
-    /// How the pipe is opened for writing; `None` where the feed is no pipe, or `wake` has taken the way.
+    /// How the pipe is opened for writing; `None` where the feed is no pipe, or `wake` has taken this value.
     way: Mutex<Option<Way<R::File>>>,
-    /// The file or pipe, held open for the next run: the system keeps what a pipe holds, and a file that has lost its name.
+    /// The file or pipe, held open for the next run: so the system keeps the bytes in a pipe, and a file that has lost
+    /// its name.
     held: Mutex<Option<R::File>>,
-    /// The files that got the name of that file one after another, held open until they are read.
+    /// The files that got the name of that file later, one after another, held open until they are read.
     later: Mutex<Vec<R::File>>,
-    /// The bytes that were read of the pipe, which the reader passes on line by line.
+    /// The bytes that were read from the pipe, which the reader passes on line by line.
     pub text: Mutex<PipeText>,
-    /// The file of the feed is read no more, and its name is that of another file.
+    /// Whether the file of the feed is no longer read, and its name refers to another file.
     pub is_replaced: Flag,
-    /// The error stream has the line that the file was replaced, from before `is_replaced` was set.
+    /// Whether it was printed that the file was replaced, before `is_replaced` was set.
     pub is_replaced_printed: Flag,
-    /// The run before read the old file of the feed to its end, so that no other old file is looked for.
+    /// Whether the previous run read the old file of the feed to its end, so that no other old file is searched for.
     pub is_old_read: Flag,
-    /// The error stream has the line that the file of the feed has lost its name.
+    /// Whether it was printed that the file of the feed has lost its name.
     pub is_removed: Flag,
-    /// The error stream has the line that the feed is absent.
+    /// Whether it was printed that the feed is absent.
     pub is_absent: Flag,
-    /// A command of the feed waits for the system's clock, and is left to the next run.
+    /// Whether a command of the feed that waits for the system's clock is left to the next run.
     pub is_left: Flag,
-    /// The lines that were given to the sender last; `None` where refused lines are not shown.
+    /// The lines that the sender got last; `None` where refused lines are not shown.
     seen: Option<Mutex<SeenLines>>,
 }
 
@@ -125,17 +126,17 @@ impl<'a, R: Files> Gate<'a, R> {
         }
     }
 
-    /// Keeps the bytes that the sender is given now, where refused lines are shown.
+    /// Keeps the bytes that the sender gets now, where refused lines are shown.
     ///
-    /// Believed: out of memory, a refused line is shown without its bytes (no premise; verbose).
+    /// Believed: if memory runs out, a refused line is shown without its bytes (no premise; verbose).
     pub fn see<W: Wait>(&self, rt: &W, bytes: &[u8]) {
         if let Some(seen) = &self.seen {
             seen.lock(rt).note(bytes);
         }
     }
 
-    /// The line that shows a refused line of this number, counted from 1 in this run; `None` where refused lines are not
-    /// shown, or memory runs out.
+    /// The line that shows the refused line of this number, counted from 1 in this run; `None` where refused lines are
+    /// not shown, or memory runs out.
     ///
     /// Believed: the bytes are those of the line (premise 11; verbose).
     pub fn show<W: Wait>(&self, rt: &W, number: u64, fault: LineFault) -> Option<Vec<u8>> {
@@ -178,7 +179,7 @@ impl<'a, R: Files> Gate<'a, R> {
         }
     }
 
-    /// Adds these files to those that got the name of the feed later. Where memory runs out, drops them.
+    /// Adds these files to those that got the name of the feed later. If memory runs out, drops them.
     ///
     /// Believed: they are read in this order (premise 11; rotation).
     pub fn add_later<W: Wait>(&self, rt: &W, files: Vec<R::File>) {
@@ -195,7 +196,7 @@ impl<'a, R: Files> Gate<'a, R> {
         mem::replace(&mut *self.later.lock(rt), Vec::new(alloc))
     }
 
-    /// Takes the file that got the name of the feed first, of those that are not read yet.
+    /// Takes the first of the files that got the name of the feed later and are not read yet.
     ///
     /// Believed: as [`add_later`](Gate::add_later) (rotation).
     pub fn take_next<W: Wait>(&self, rt: &W) -> Option<R::File> {
@@ -207,31 +208,32 @@ impl<'a, R: Files> Gate<'a, R> {
         }
     }
 
-    /// Begins with these bytes of the pipe, which the run before left.
+    /// Begins with these bytes of the pipe, which the previous run left.
     ///
     /// Believed: the reader passes them on first (premise 11; rotation).
     pub fn give_bytes<W: Wait>(&self, rt: &W, left: Vec<u8>) {
         *self.text.lock(rt) = PipeText::new(left);
     }
 
-    /// Takes the bytes that this run leaves to the next one. They begin with a line; a part of it that the sender got
-    /// already was no whole line there.
+    /// Takes the bytes that this run leaves to the next one. They begin with a line, of which the sender may already
+    /// have got a part, but not the whole.
     ///
-    /// Believed: each line is left or passed on, and not both (premise 11; rotation, ahead-rotation).
+    /// Believed: each line is either left or passed on, never both (premise 11; rotation, ahead-rotation).
     pub fn take_bytes<W: Wait>(&self, rt: &W, alloc: Global) -> Vec<u8> {
         let mut text = self.text.lock(rt);
         text.take_back_part();
         text.take_left(alloc)
     }
 
-    /// Takes back from the sender the line of this number and all behind it, so that they are left to the next run.
+    /// Takes back from the sender the line of this number and all bytes after it, so that they are left to the next
+    /// run.
     ///
-    /// Believed: the lines before it, and no other, were sent (premise 11; ahead-rotation).
+    /// Believed: exactly the lines before it were sent (premise 11; ahead-rotation).
     pub fn take_back<W: Wait>(&self, rt: &W, line: u64) {
         self.text.lock(rt).take_back_line(line);
     }
 
-    /// Whether the line that the file was replaced is still to be printed.
+    /// Whether it is still to be printed that the file was replaced.
     ///
     /// Believed: the line is printed once for each file (premise 11; rotation, absent-feed, cut-file).
     pub fn is_unprinted(&self) -> bool {
@@ -260,7 +262,7 @@ impl<'a, R: Files> Gate<'a, R> {
     /// Ends a read: where nobody has woken the reader, sets the state to away. Returns what the reader has to do next.
     /// Where the reader was woken, waits at most 100 ms while the mark is being written into its pipe.
     ///
-    /// Believed: the reader that was woken takes no byte of [`wake`](Gate::wake) for one of its feed (premises
+    /// Believed: the reader that was woken takes no byte that [`wake`](Gate::wake) wrote as one of its feed (premises
     /// 9, 10 and 11; follow-full).
     pub fn leave<C: Clock>(&self, rt: &C) -> Leaving {
         if self.change_state(READING, AWAY) {
@@ -305,7 +307,7 @@ impl<'a, R: Files> Gate<'a, R> {
 }
 
 impl<'a, R: Files + Wait> Gate<'a, R> {
-    /// The node of the file that got the name of the feed last, of those that are held; `None` where none is.
+    /// The node of the held file that got the name of the feed last; `None` where no file is held.
     ///
     /// Believed: as [`note_name`](Gate::note_name) (rotation).
     fn last_node(&self, rt: &R) -> Option<Node> {
@@ -315,17 +317,17 @@ impl<'a, R: Files + Wait> Gate<'a, R> {
         }
     }
 
-    /// Where the name of the feed is that of another regular file than the last one that is held, holds that one too, and
-    /// those that had the name in between, so that each is read although a further file gets the name. `gates` are those of
-    /// all feeds.
+    /// Where the name of the feed refers to a regular file that is not the last one held, holds this file too, and the
+    /// files that had the name in between, so that each is read even if a further file gets the name. `gates` are those
+    /// of all feeds.
     ///
-    /// Believed: each file that has the name for a quarter of a second is held, and one that a rotation renamed before
-    /// that (premise 8; rotation, ahead-rotation).
+    /// Believed: each file that has the name for a quarter of a second is held, and so is a file that a rotation
+    /// renamed sooner (premise 8; rotation, ahead-rotation).
     pub fn note_name(&self, rt: &R, gates: &[Gate<'a, R>]) {
         let (Some(last), Ok(named)) = (self.last_node(rt), fs::metadata(rt, self.path)) else {
             return;
         };
-        // To open a pipe would wait for its writer.
+        // Opening a pipe would wait for its writer.
         if !named.is_file() || last == Node::of(&named) {
             return;
         }
@@ -351,11 +353,11 @@ impl<'a, R: Files + Clock + Wait> Gate<'a, R> {
     ///
     /// A reader that does not leave within 100 ms waits for an empty pipe: the mark is written into the pipe, which
     /// ends the read. Another reader of the pipe may take the mark, so one more is written until this reader has
-    /// left. Where the pipe cannot be opened or written, as where it lost its name before its first writer came, the
-    /// reader stays in its read.
+    /// left. Where the pipe cannot be opened or written, for example where it lost its name before its first writer
+    /// came, the reader stays in its read.
     ///
-    /// Believed: the reader ends without a byte of its feed lost but those behind the last whole line (premises 10 and
-    /// 11; follow-full).
+    /// Believed: the reader ends, and no byte of its feed is lost except those after the last whole line (premises 10
+    /// and 11; follow-full).
     pub fn wake(&self, rt: &R) {
         if !self.call_out() || self.wait_until_left(rt) {
             return;

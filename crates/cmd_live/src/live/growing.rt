@@ -1,5 +1,5 @@
-//! A feed that is a regular file which grows: its reader waits for more bytes, and writes to the error stream that the
-//! file was replaced.
+//! A feed that is a regular file and grows: its reader waits for more bytes, and prints to the error stream if the file
+//! was replaced.
 ghost use Rattle.std.specs.Prelude.{◌≡◌, ◌≤◌, ◌⊎◌, true, false, IfOk, length};
 ghost use Rattle.cmd_live.specs.declared.live.growing.Growth.TheVariants.{Open, Removed, Cut};
 
@@ -13,11 +13,11 @@ use cmd_dispatch::FeedFailed;
 use std::rt::Files;
 use std::sync::Wait;
 
-/// How many looks in a row find no byte more before a renamed file counts as ended: two seconds, since a writer that has
-/// it open may be late.
+/// The number of checks in a row that find no new byte before a renamed file counts as ended: two seconds, since a
+/// writer that has the file open may be late.
 const LOOKS_TO_END: u64 = 2 * LOOKS_A_SECOND;
 
-/// How many looks are between two requests for the end of the run: five seconds.
+/// The number of checks between two requests for the end of the run: five seconds.
 const LOOKS_TO_ASK: u64 = 5 * LOOKS_A_SECOND;
 
 /// What the reader has seen so far of a growing file and of its name.
@@ -25,19 +25,19 @@ const LOOKS_TO_ASK: u64 = 5 * LOOKS_A_SECOND;
 enum Growth {
     /// The file may still grow.
     Open,
-    /// At the last look the name was that of no file. A rotation may have begun.
+    /// At the last check the name referred to no file. A rotation may have begun.
     Nameless,
-    /// The name was that of no file at two looks; the error stream has the line on it. The file is still read, since
-    /// its writer may append more.
+    /// The name referred to no file at two checks, and this was printed. The file is still read, since its writer may
+    /// append more.
     Removed,
-    /// The file became shorter than what was read of it; the error stream has the line on it. The file is read no more.
+    /// The file became shorter than the part of it that was read, and this was printed. The file is no longer read.
     Cut,
-    /// The name is that of another file. The file is read no more.
+    /// The name refers to another file. The file is no longer read.
     Replaced,
 }
 
 impl Growth {
-    /// Whether the error stream has the line that the file was replaced, before its name is that of another file.
+    /// Whether it was printed that the file was replaced, before its name refers to another file.
     fn is_printed(self) -> bool
         ensures printed { result ≡ true → (self ≡ Removed) ⊎ (self ≡ Cut) }
         ensures unprinted { result ≡ false → (self ≡ Removed) ⊎ (self ≡ Cut) → ⊥ }
@@ -54,15 +54,15 @@ pub struct Growing<'a, R: Files> {
     named: FollowedFile<'a, R>,
     tail: Tail,
     growth: Growth,
-    /// How many looks in a row found no byte more of a renamed file.
+    /// The number of checks in a row that found no new byte in a renamed file.
     quiet: u64,
-    /// How many looks were made since the file was replaced.
+    /// The number of checks since the file was replaced.
     looks: u64,
 }
 
 impl<'a, R: FeedSystem> Growing<'a, R> {
-    /// A reader of a file that had lost its name when it was opened, which the error stream has the line on already.
-    /// Otherwise as [`new`](Growing::new).
+    /// A reader of a file that had lost its name when it was opened, where this was already printed. Otherwise as
+    /// [`new`](Growing::new).
     pub fn removed(
         signal: &'a Signal<'a, R>,
         gate: &'a Gate<'a, R>,
@@ -108,9 +108,9 @@ impl<'a, R: FeedSystem> Growing<'a, R> {
         self.growth = growth;
     }
 
-    /// Counts a look that found no byte more of the file while its name is that of another file. After
-    /// [`LOOKS_TO_END`] such looks the file is read no more; where the run can be renewed, the line that the file was
-    /// replaced is left to the end of the run.
+    /// Counts a check that found no new byte in the file while its name refers to another file. After
+    /// [`LOOKS_TO_END`] such checks the file is no longer read; where the run can be renewed, the line that the file
+    /// was replaced is left to the end of the run.
     ///
     /// Believed: a byte that is appended within a second of the rename is read (premises 1 and 9; follow-file).
     fn note_renamed(&mut self) {
@@ -131,7 +131,7 @@ impl<'a, R: FeedSystem> Growing<'a, R> {
 
     /// Sets `growth` by the state of the file and of its name, after a read that found no byte.
     ///
-    /// Believed: a file that was cut is followed by the file that gets its name, as one that was not (premise 8;
+    /// Believed: after a file that was cut, as after any other, the file that gets its name is read (premise 8;
     /// cut-file, rotation).
     fn look(&mut self) {
         if self.growth == Growth::Replaced {
@@ -183,9 +183,9 @@ impl<'a, R: FeedSystem> Growing<'a, R> {
         Ok(count)
     }
 
-    /// Reads the next bytes into the buffer and returns how many they are. Waits until there are some or the run is
-    /// ending; returns 0 only where it is ending. The error is a failed read, or an end of the run that ends the text in
-    /// the midst of a line.
+    /// Reads the next bytes into the buffer and returns their number. Waits until there are some or the run is ending;
+    /// returns 0 only where it is ending. The error is a failed read, or an end of the run that ends the text in the
+    /// middle of a line.
     pub fn next<W: Wait>(&mut self, rt: &W, buffer: &mut [u8]) -> Result<usize, FeedFailed>
         ensures bound { IfOk result (λ n. n ≤ length buffer.new) }
     {

@@ -1,5 +1,5 @@
-//! The watch on the file of the inventory during a run: where the file has a new text without a fault, the run
-//! is asked to end, and the next one begins under that text.
+//! Watches the file of the inventory during a run: where the file has a new text without a fault, the run is asked to
+//! end, and the next one begins under that text.
 ghost use Rattle.std.specs.Prelude.{◌≡◌, None};
 
 use super::error_streams::report;
@@ -15,21 +15,21 @@ use std::fs;
 use std::os::unix::fs::MetadataExt;
 use std::rt::Files;
 
-/// How many looks at the file are between two requests for the end of the run: a choice. A request may hold up all
+/// The number of checks of the file between two requests for the end of the run: a choice. A request may hold up all
 /// feeds for a second.
 const LOOKS_TO_ASK: u64 = 5;
 
-/// What the system says of a file: it changes where the name is given to another file, or the file gets another text.
+/// The metadata of a file that changes where its name is given to another file, or the file gets another text.
 #[derive(Clone, Copy, PartialEq, Eq)]
 pub struct Look {
     node: Node,
     length: u64,
-    /// When the text was changed last, in seconds and nanoseconds.
+    /// The time of the last change of the text, in seconds and nanoseconds.
     seconds: i64,
     nanoseconds: i64,
 }
 
-/// The watch of one run. The thread of the clock feed looks for it.
+/// The watch of one run. The thread of the clock feed calls it.
 #[derive(Drop)]
 pub struct InventoryWatch<'a, R: Files> {
     rt: &'a R,
@@ -39,16 +39,16 @@ pub struct InventoryWatch<'a, R: Files> {
     path: &'a str,
     /// The text under which the run applies its commands.
     text: &'a [u8],
-    /// What the system said at the last look.
+    /// The metadata at the last check.
     last: Option<Look>,
     /// The text of a new inventory, which waits for the end of the run.
     found: Option<Vec<u8>>,
-    /// How many looks were made.
+    /// The number of checks so far.
     looks: u64,
 }
 
 impl<'a, R: Files> InventoryWatch<'a, R> {
-    /// The watch of a run under the inventory of this text on the file at `path`. Looks at nothing yet.
+    /// The watch on the file at `path`, for a run under the inventory of this text. Checks nothing yet.
     pub fn new(
         rt: &'a R,
         alloc: Global,
@@ -74,10 +74,10 @@ impl<'a, R: Files> InventoryWatch<'a, R> {
 }
 
 impl<R: FeedSystem> InventoryWatch<'_, R> {
-    /// What the system says of the file now. `None` where there is no regular file, since opening a pipe would wait for
-    /// its writer, or the system does not say.
+    /// The present metadata of the file. `None` where it is no regular file, since opening a pipe would wait for its
+    /// writer, or where the system does not say.
     ///
-    /// Believed: it differs from what was said before where the text does (premises 8 and 9; live-inventory).
+    /// Believed: it differs from earlier metadata where the text differs (premises 8 and 9; live-inventory).
     fn look(&self) -> Option<Look> {
         let found = fs::metadata(self.rt, self.path).ok()?;
         if !found.is_file() {
@@ -122,11 +122,11 @@ impl<R: FeedSystem> InventoryWatch<'_, R> {
         }
     }
 
-    /// Looks at the file; is called once a second. A text is read once it has stood for a second, since it may still be
-    /// written before. Where it is a new inventory, asks for the end of the run, at once and then every five seconds, and
-    /// leaves the text to the next run.
+    /// Checks the file; is called once a second. A text is read once it has been unchanged for a second, since it may
+    /// still be being written before. Where it is a new inventory, asks for the end of the run, at once and then every
+    /// five seconds, and leaves the text to the next run.
     ///
-    /// Believed: each new text that stands for two seconds is judged once (premises 8, 9 and 11; live-inventory).
+    /// Believed: each new text that is unchanged for two seconds is read once (premises 8, 9 and 11; live-inventory).
     pub fn look_again(&mut self) {
         self.looks = self.looks.saturating_add(1);
         let now = self.look();

@@ -11,7 +11,7 @@ pub enum LockFault {
     InUse,
     /// The file could not be created or opened, or the system refused the lock for a reason other than `InUse`.
     Failed,
-    /// The same, by a fault that may pass by itself.
+    /// As `Failed`, by a fault that may pass by itself.
     Passing,
 }
 

@@ -1,5 +1,5 @@
-//! The identity of a file on the system: its device and its number there. Two names are names of one file where their
-//! nodes are equal. Nothing is opened or changed here.
+//! The identity of a file on the system: its device and its inode number. Two names refer to one file where their nodes
+//! are equal. Nothing is opened or changed here.
 use std::fs::Metadata;
 use std::os::unix::fs::MetadataExt;
 
@@ -13,7 +13,7 @@ pub struct Node {
 impl Node {
     /// The node of the file that `found` describes.
     ///
-    /// Believed: two names with one node are names of one file (premise 8; rotation).
+    /// Believed: two names with the same node refer to the same file (premise 8; rotation).
     pub fn of(found: &Metadata) -> Node {
         Node {
             device: found.dev(),

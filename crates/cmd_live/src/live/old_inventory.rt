@@ -1,6 +1,6 @@
 //! The inventories that a state directory had before its present one. The file `inventory.N` has the text under which
-//! the segments before N were applied; where no entry came between two changes, `inventory.N.2` has the text after that,
-//! and so on. Each file is written once, before the first run under the next inventory begins.
+//! the segments before N were applied; where no entry came between two changes, `inventory.N.2` has the text after
+//! that, and so on. Each file is written once, before the first run under the next inventory begins.
 ghost use Rattle.std.specs.Prelude.{◌≡◌, ◌≢◌, ◌++◌, true, IfOk, codes, drop, length, string_bytes, take};
 ghost use Rattle.std.specs.Fmt.{decimal};
 ghost use Rattle.cmd_live.specs.Reading.{segment_path};
@@ -61,8 +61,8 @@ pub fn inventory_path(
     }
 }
 
-/// The numbers of the files of the directory whose names are `word` and a number, in ascending order. The directory may
-/// be named by a link.
+/// The numbers of the files of the directory whose names are `word` and a number, in ascending order. The path of the
+/// directory may be a link.
 ///
 /// Believed: each such file is found (premise 13; new-inventory).
 pub fn list_numbers<R: Files>(
@@ -129,8 +129,8 @@ fn has_inventory(state: &[u8], inventory: &[u8]) -> bool
     }
 }
 
-/// Where the file `state` of the directory has another inventory than `given`, keeps that inventory: `number` is the
-/// segment that is about to begin under `given`. Does nothing where it was kept already, or there is no such file.
+/// Keeps the inventory of the directory's file `state`, where it differs from `given`. `number` is the segment that is
+/// about to begin under `given`. Does nothing where that inventory was kept already, or there is no file `state`.
 ///
 /// Believed: the inventory survives a crash from then on (premises 4 to 6; new-inventory).
 pub fn keep_old_inventory<R: Files>(

@@ -75,8 +75,8 @@ impl<'a, R: Files + Clock, I: Read + Drop> Beginning<'a, R, I> {
 /// Finds where the reading of a regular file begins, and moves the file there; does not move it where `known` is
 /// `None`. Returns `None` where the file cannot be read or moved, or memory runs out.
 ///
-/// Believed: no command that was journaled is read again, and none after it is passed over (premise 1; state-restart,
-/// rotation).
+/// Believed: no journaled command is read again, and no command after the journaled ones is skipped (premise 1;
+/// state-restart, rotation).
 pub fn seek_start<F: Read + Seek>(
     alloc: Global,
     file: &mut F,
@@ -108,7 +108,7 @@ fn file_source<'a, R: FeedSystem, I: Read + Drop>(
         ..
     } = *opening;
     let start = if gate.is_old_read.is_set() && !gate.holds(rt, &file) {
-        // Its lines may be those of the old file, so they prove nothing.
+        // Its lines may be copies of the old file's lines, so they prove nothing.
         start_anew(opening, gate, known)
     } else {
         seek_start(alloc, &mut file, known)?
@@ -183,11 +183,11 @@ fn open_file<'a, R: FeedSystem, I: Read + Drop>(
     }
 }
 
-/// Opens the file at the path of the gate as a feed, by the file's kind; where there is no file, the old file of the
-/// feed. A feed that the run before had open is opened as it was. Returns `None` where there is none, it cannot be opened
-/// or read, it changes between a pipe and another kind before it is opened, or memory runs out.
+/// Opens the file at the path of the gate as a feed, by the file's kind; where there is no such file, the old file of
+/// the feed. A feed that the previous run had open is opened as it was. Returns `None` where there is no file, it
+/// cannot be opened or read, it changes between a pipe and another kind before it is opened, or memory runs out.
 ///
-/// Believed: the kind is looked at before the file is opened, since to open a pipe for reading waits for a writer
+/// Believed: the kind is checked before the file is opened, since opening a pipe for reading waits for a writer
 /// (premises 8 and 10; follow-pipes, follow-file).
 pub fn open_by_kind<'a, R: FeedSystem, I: Read + Drop>(
     opening: &Opening<'a, '_, R>,
@@ -208,8 +208,8 @@ pub fn open_by_kind<'a, R: FeedSystem, I: Read + Drop>(
     }
 }
 
-/// The feed that was opened; where it was not, an absent feed. `None` for an absent feed that is drained, or is the
-/// input.
+/// The feed that was opened, or an absent feed where none was opened. A drained feed and the input are never absent:
+/// where one of these was not opened, the result is `None`.
 ///
 /// Believed: as [`Absent::new`] (absent-feed).
 fn opened_or_absent<'a, R: FeedSystem, I: Read + Drop>(
@@ -256,8 +256,8 @@ fn open_input<'a, R: FeedSystem, I: Read + Drop>(
     Some(Beginning::first(Source::Input(stream)))
 }
 
-/// The stop for a feed that was not opened. The fault may pass where the system says so of a second opening, or that
-/// one succeeds.
+/// The stop for a feed that was not opened. The fault may pass where a second attempt to open the feed succeeds, or
+/// fails by a fault that may pass.
 ///
 /// Believed: no pipe is opened, which would wait for a writer (premises 8 and 10; follow-drain).
 fn unopened<'a, R: Files>(rt: &R, path: &'a str) -> FilesStop<'a>
@@ -279,13 +279,13 @@ fn unopened<'a, R: Files>(rt: &R, path: &'a str) -> FilesStop<'a>
 }
 
 /// Opens the feed of each gate, in order, and finds where the reading of each begins. A feed that cannot be opened is
-/// absent until its file is there, and one that the call does not name ends at once. The path `-` is the program's input,
-/// for one feed at most. Stores at the gate of each pipe how `wake` opens the pipe. Writes to no file.
+/// absent until its file exists, and a feed that the call does not name ends at once. The path `-` is the program's
+/// input, for one feed at most. Stores at the gate of each pipe how `wake` opens the pipe. Writes to no file.
 ///
 /// # Errors
 /// [`FilesStop::Open`] with the path of a second feed `-` or, with `drain`, of the first feed that cannot be opened;
-/// [`FilesStop::OpenPassing`] where that may pass; or [`Stop::Memory`]. The feeds opened before it are closed; ways that
-/// were stored at gates remain.
+/// [`FilesStop::OpenPassing`] where that may pass; or [`Stop::Memory`]. The feeds opened before it are closed; what was
+/// stored at gates remains.
 pub fn open_feeds<'a, R: FeedSystem, I: Read + Drop>(
     opening: &Opening<'a, '_, R>,
     gates: &'a [Gate<'a, R>],

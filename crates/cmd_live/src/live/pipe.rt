@@ -1,6 +1,6 @@
 //! A feed that is a pipe. A followed pipe stays open while its writers come and go; a drained pipe ends with its last
 //! writer. Another thread can end a read that waits for bytes, through the gate of the feed. Lines are passed on whole:
-//! what is left when the run ends is left to the next run.
+//! an unfinished line at the end of the run is left to the next run.
 ghost use Rattle.std.specs.Prelude.{◌≡◌, ◌≤◌, false, [], IfOk, IfSome, length};
 
 use super::gate::{Gate, Leaving};
@@ -15,10 +15,10 @@ use std::rt::Files;
 use std::sync::Wait;
 use std::time::Clock;
 
-/// How many bytes a read of a pipe asks for: a choice, a page.
+/// The most bytes of one read of a pipe: a choice, a page.
 const PIECE: usize = 4_096;
 
-/// A pipe. Its gate has the bytes that were read of it and not passed to the sender yet.
+/// A pipe. Its gate has the bytes that were read from it and not passed to the sender yet.
 #[derive(Drop)]
 pub struct Pipe<'a, R: Files> {
     rt: &'a R,
@@ -76,8 +76,8 @@ impl<'a, R: Files + Clock + Wait> Pipe<'a, R> {
         Ok(count)
     }
 
-    /// Reads once between `enter` and `leave` of the gate, and waits for the read; `None` where the reader was woken,
-    /// with what was read.
+    /// Reads once between `enter` and `leave` of the gate, and waits for the read. Returns `None` where the reader was
+    /// woken; bytes that it read meanwhile are kept at the gate.
     ///
     /// Believed: as [`Gate::enter`] and [`Gate::leave`] (follow-full).
     fn read_through<W: Wait>(&mut self, rt: &W) -> Option<Result<usize, FeedFailed>> {
@@ -95,8 +95,8 @@ impl<'a, R: Files + Clock + Wait> Pipe<'a, R> {
         None
     }
 
-    /// Passes the next bytes on to the buffer, where the sender may have them, and returns how many; 0 where no whole
-    /// line is there.
+    /// Copies the next bytes into the buffer, where the sender may have them, and returns their number; 0 where there
+    /// is no whole line.
     fn give(&mut self, buffer: &mut [u8]) -> usize
         ensures bound { result ≤ length buffer.new }
     {
@@ -112,7 +112,7 @@ impl<'a, R: Files + Clock + Wait> Pipe<'a, R> {
 
     /// Copies the next bytes into the buffer, waits for them where none are kept, and returns their number. Returns 0
     /// at the end of the pipe or once the run is to end. The error is a failed read, out of memory, or a text that ends
-    /// in the midst of a line.
+    /// in the middle of a line.
     pub fn next<W: Wait>(&mut self, rt: &W, buffer: &mut [u8]) -> Result<usize, FeedFailed>
         ensures bound { IfOk result (λ n. n ≤ length buffer.new) }
     {

@@ -1,4 +1,4 @@
-//! Where a state directory is, and which part of it was at fault. Nothing is opened or changed here.
+//! The path of a state directory, and the part of it at which a call failed. Nothing is opened or changed here.
 use super::node::Node;
 
 /// The part of a state directory at which a call of the store failed.

@@ -1,5 +1,5 @@
-//! How a run that follows feeds ends so that the next one begins in the same process: each feed ends behind a command
-//! that was sent, and a command that waits for the system's clock is left to the next run. The readers and the attendants
+//! Ends a run that follows feeds so that the next one begins in the same process: each feed ends after a command that
+//! was sent, and a command that waits for the system's clock is left to the next run. The readers and the attendants
 //! share one `Renewal`.
 use super::flag::Flag;
 use cmd_types::Memory;
@@ -17,20 +17,20 @@ const PAUSING: u64 = 1;
 /// Each feed ends.
 const ENDING: u64 = 2;
 
-/// How often the reader that asks looks whether all that was given is sent: for a second.
+/// How often the reader that asks checks whether all commands it passed on are sent: for a second.
 const LOOKS: u64 = 100;
 
-/// How many milliseconds are between two looks.
+/// The milliseconds between two checks.
 const BETWEEN: u64 = 10;
 
-/// Whether a run is to end so that the next one begins.
+/// The state shared by the threads of a run: whether it is to end so that the next one begins.
 #[derive(Drop)]
 pub struct Renewal {
     /// One of the three constants above.
     state: AtomicU64,
-    /// The run cannot end for a next one, since it has a feed whose read cannot be ended, or keeps nothing.
+    /// Whether the run cannot end for a next one, since it has a feed whose read cannot be ended, or keeps nothing.
     is_forbidden: Flag,
-    /// For each feed: its reader has given bytes of which a command may not be sent yet.
+    /// For each feed, whether its reader has passed on bytes with a command that may not be sent yet.
     busy: Vec<Flag>,
 }
 
@@ -71,8 +71,8 @@ impl Renewal {
         self.state.load(Ordering::SeqCst) == ENDING
     }
 
-    /// The reader of the feed is called, since the commands of all that it gave were sent; or one of them waits for the
-    /// system's clock, and those before it were sent.
+    /// Records that all commands that the reader of the feed passed on were sent, since the reader is called again; or
+    /// that one of them waits for the system's clock, and those before it were sent.
     ///
     /// Believed: a feed that waits does not hold up the end of the run (premise 11; rotation, ahead-rotation).
     pub fn rest(&self, feed: u64) {
@@ -81,8 +81,8 @@ impl Renewal {
         }
     }
 
-    /// Whether the reader may give bytes to its sender, or a command that has waited may be sent. If not, the caller
-    /// asks again later.
+    /// Whether the reader may pass bytes on to its sender, or a command that has waited may be sent. If not, the caller
+    /// has to ask again later.
     ///
     /// Believed: once it has returned true, no feed ends for the next run until these commands were sent or wait
     /// (premise 11; rotation, cut-file, ahead-rotation).
@@ -97,7 +97,7 @@ impl Renewal {
         is_running
     }
 
-    /// Whether all that was given is sent.
+    /// Whether all commands that were passed on are sent.
     ///
     /// Believed: false while a command is on its way to the queue (premise 11; rotation).
     fn are_at_rest(&self) -> bool {

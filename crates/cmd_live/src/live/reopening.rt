@@ -1,5 +1,5 @@
-//! Opens a feed as an earlier run had it open: the file or pipe that is held open, or a file that a rotation has renamed.
-//! Lines are printed to the error stream; no file is written.
+//! Opens a feed as an earlier run had it open: the file or pipe that is held open, or a file that a rotation has
+//! renamed. Lines are printed to the error stream; no file is written.
 use super::error_streams::report;
 use super::followed_file::FollowedFile;
 use super::gate::Gate;
@@ -20,9 +20,9 @@ use std::rt::Files;
 use std::sync::Wait;
 use std::time::Clock;
 
-/// Finds the file that the feed was read from before its path named another file or none, and holds open those that got
-/// the name between it and the present one. `None` where it is not found, no further run can begin, or the run before
-/// read it to its end.
+/// Finds the file from which the feed was read before its path named another file or none, and holds open the files
+/// that had the name after it and before the present one. `None` where the file is not found, no further run can begin,
+/// or the previous run read it to its end.
 ///
 /// Believed: as [`Rotated::find`] (rotation).
 pub fn find_old<R: Files + Clock + Wait>(
@@ -43,8 +43,8 @@ pub fn find_old<R: Files + Clock + Wait>(
     Some((file, start))
 }
 
-/// The start of a file of which nothing was read, as another one was read before it. Prints to the error stream that the
-/// feed begins anew, where the counts of the feed do not say so.
+/// The start of a file of which nothing was read, where the feed was read from another file before. Prints to the error
+/// stream that the feed begins anew, where the counts of the feed do not show it.
 ///
 /// Believed: the line is printed once for each file (premise 12; rotation).
 pub fn start_anew<R: FeedSystem>(
@@ -63,9 +63,9 @@ pub fn start_anew<R: FeedSystem>(
     Start::FIRST
 }
 
-/// The feed over the file that it was read from before, from this start.
+/// The feed over the file from which it was read before, from this start.
 ///
-/// Believed: the line that this file was replaced is printed once, also where the run before printed it (premise 11;
+/// Believed: the line that this file was replaced is printed once, even if the previous run printed it (premise 11;
 /// absent-feed).
 pub fn old_source<'a, R: FeedSystem, I: Read + Drop>(
     opening: &Opening<'a, '_, R>,
@@ -86,7 +86,7 @@ pub fn old_source<'a, R: FeedSystem, I: Read + Drop>(
     }
 }
 
-/// The feed over the file that it was read from before its path named no file. `None` where that file is not found.
+/// The feed over the file from which it was read before its path named no file. `None` where that file is not found.
 ///
 /// Believed: a writer of the old file is still read (premise 8; absent-feed).
 pub fn open_old<'a, R: FeedSystem, I: Read + Drop>(
@@ -98,8 +98,8 @@ pub fn open_old<'a, R: FeedSystem, I: Read + Drop>(
     Some(old_source(opening, gate, old, start))
 }
 
-/// The feed over the pipe that is held open. `None`, and the pipe is still held, unless a command of it was left and its
-/// path names no file.
+/// The feed over the pipe that is held open, where a command of the pipe was left to this run and its path names no
+/// file. Otherwise `None`, and the pipe is still held.
 ///
 /// Believed: the command is taken from the bytes that were left (premise 10; ahead-rotation).
 fn held_pipe<'a, R: Files + Clock + Wait, I: Read + Drop>(
@@ -118,11 +118,11 @@ fn held_pipe<'a, R: Files + Clock + Wait, I: Read + Drop>(
     Some(Beginning::first(Source::Pipe(pipe)))
 }
 
-/// Opens a feed as the run before had it open: the file that is held open, whatever its name is now; or where that was
-/// read to its end, the file that got the name after it. `None` in the first run of a process, for a file that was cut
-/// meanwhile, and for most pipes.
+/// Opens a feed as the previous run had it open: the file that is held open, whatever its name is now; or, where that
+/// file was read to its end, the file that got the name after it. `None` in the first run of a process, for a file that
+/// was cut meanwhile, and for most pipes.
 ///
-/// Believed: of a file that was renamed no line is passed over (premises 1 and 8; rotation, ahead-rotation).
+/// Believed: no line of a renamed file is skipped (premises 1 and 8; rotation, ahead-rotation).
 pub fn open_held<'a, R: FeedSystem, I: Read + Drop>(
     opening: &Opening<'a, '_, R>,
     gate: &'a Gate<'a, R>,

@@ -1,6 +1,6 @@
-//! The files that a feed was read from before its name was given to another file: they are found beside that one, under
-//! names that begin with the same name. The one that was read last is known by the commands that were journaled of it, or
-//! by its node; those that got the name after it are known by their numbers or dates, and by when they were written.
+//! The files from which a feed was read before its name was given to another file. They are found in the same folder,
+//! under names that begin with the same name. The file that was read last is recognized by its journaled commands, or
+//! by its node; the files that got the name after it, by their numbers or dates and by the times of their last writes.
 ghost use Rattle.std.specs.Prelude.{◌≡◌, ◌⊎◌, IfSome, Some, length, slice_get, take};
 
 use super::candidate::{Candidate, Renamed, later_files, length_of, written_of};
@@ -23,7 +23,7 @@ fn split_path(path: &str) -> (&str, &str) {
     }
 }
 
-/// What stands behind `name` in the name of a file which had `name` before a rotation, such as `.1` or `-20261128`; `None`
+/// The suffix after `name` in the name of a file that had `name` before a rotation, such as `.1` or `-20261128`; `None`
 /// for any other file.
 fn rotated_end<'a>(found: &'a [u8], name: &[u8]) -> Option<&'a [u8]>
     ensures begins { IfSome result (λ _. take (length name.now) found.now ≡ name.now) }
@@ -45,8 +45,8 @@ pub struct Rotated<'g, 'a, R: Files> {
     pub gates: &'g [Gate<'a, R>],
 }
 
-/// The old file of a feed, positioned behind its journaled commands, and the files that got its name in later rotations, in
-/// the order in which they did.
+/// The old file of a feed, positioned after its journaled commands, and the files that got its name in later rotations,
+/// in that order.
 #[derive(Drop)]
 pub struct Found<F: Drop> {
     pub file: F,
@@ -63,9 +63,9 @@ impl<R: Files> Rotated<'_, '_, R> {
         (if folder.is_empty() { "/" } else { folder }, name)
     }
 
-    /// Whether the file with this end is that of another feed, or had the other feed's name before a rotation.
+    /// Whether the file with this suffix belongs to another feed, or had the other feed's name before a rotation.
     ///
-    /// Believed: the paths of the feeds in one folder are written in one way (no premise; quick-rotations).
+    /// Believed: the paths of all feeds in one folder are written in the same way (no premise; quick-rotations).
     fn is_of_other_feed(&self, end: &[u8]) -> bool {
         for gate in self.gates {
             if let Some(other) = gate.path.as_bytes().strip_prefix(self.path.as_bytes())
@@ -78,7 +78,7 @@ impl<R: Files> Rotated<'_, '_, R> {
         false
     }
 
-    /// Opens the regular file that was renamed to this end.
+    /// Opens the regular file that was renamed to this suffix.
     ///
     /// Believed: no pipe is opened, which would wait for its writer (premise 8; rotation).
     fn open(&self, rt: &R, alloc: Global, end: &[u8]) -> Option<Candidate<R::File>> {
@@ -100,10 +100,10 @@ impl<R: Files> Rotated<'_, '_, R> {
         })
     }
 
-    /// Opens the files that may have been the feed's: all at once, since a rotation renames them. `None` where the folder
-    /// is not read, or memory runs out.
+    /// Opens the files from which the feed may have been read, all together, since a rotation may rename them. `None`
+    /// where the folder cannot be read, or memory runs out.
     ///
-    /// Believed: each name in the folder is looked at (premise 13; rotation).
+    /// Believed: each name in the folder is checked (premise 13; rotation).
     fn candidates(&self, rt: &R, alloc: Global) -> Option<Vec<Candidate<R::File>>> {
         let (folder, name) = self.place();
         let mut files = Vec::new(alloc);
@@ -123,8 +123,8 @@ impl<R: Files> Rotated<'_, '_, R> {
         Some(files)
     }
 
-    /// The files that got the name of the feed after the file of this node, which a rotation has renamed, and before that
-    /// of the node `present`.
+    /// The files that got the name of the feed after the file of this node, which a rotation has renamed, and before
+    /// the file of the node `present`.
     ///
     /// Believed: as [`later_files`] (rotation).
     pub fn between(&self, rt: &R, alloc: Global, node: Node, present: Node) -> Vec<R::File> {
@@ -140,10 +140,11 @@ impl<R: Files> Rotated<'_, '_, R> {
         later_files(alloc, files, renamed)
     }
 
-    /// Finds the file that got the name of the feed next after the file whose last command is `last`, of which no command
-    /// was journaled, and those that got the name between it and the present one. `None` where there is none.
+    /// Finds the file that got the name of the feed next after the file whose last command is `last`, where no command
+    /// of the found file was journaled, and the files that had the name between it and the present one. `None` where
+    /// there is none.
     ///
-    /// Believed: of several files with that last command the one that was written last was read (premise 8;
+    /// Believed: of several files with that last command, the one with the last write was read (premise 8;
     /// quick-rotations).
     fn find_begun(&self, rt: &R, alloc: Global, last: &[u8]) -> Option<Found<R::File>> {
         if last.is_empty() {
@@ -173,11 +174,12 @@ impl<R: Files> Rotated<'_, '_, R> {
         None
     }
 
-    /// Finds the file of which these commands were journaled, the longest of several, and those that got the name of the
-    /// feed between it and the present one. Where no command was journaled of the last file that a run began, finds that
-    /// file. `None` where it is not found, no command of the feed was journaled, the folder is not read, or memory is out.
+    /// Finds the file of which these commands were journaled, the longest of several, and the files that had the name
+    /// of the feed between it and the present one. Where no command was journaled of the last file that a run began to
+    /// read, finds that file. `None` where it is not found, no command of the feed was journaled, the folder cannot be
+    /// read, or memory runs out.
     ///
-    /// Believed: where a run was killed within a rotation, the next one reads the old file to its end (premises 8 and
+    /// Believed: where a run was killed during a rotation, the next one reads the old file to its end (premises 8 and
     /// 13; rotation, quick-rotations).
     pub fn find(&self, rt: &R, alloc: Global, known: &Known<'_>) -> Option<Found<R::File>> {
         if known.commands == 0 {

@@ -27,7 +27,7 @@ pub struct Signal<'a, R: Files> {
     pub renewal: Renewal,
     /// What the thread of the clock feed has seen; the next run begins with it.
     pub seen: Mutex<Seen>,
-    /// Whether the file `status` lacks the last change, since it was written just before it.
+    /// Whether the file `status` lacks the last change, because it was written just before that change.
     pub is_status_late: Flag,
     /// The text of a new inventory, under which the next run is to begin.
     new_inventory: Mutex<Option<Vec<u8>>>,
@@ -119,8 +119,9 @@ impl<'a, R: Files + Clock + Wait> Signal<'a, R> {
         }
     }
 
-    /// Ends each feed so that the next run begins, and wakes the readers that wait for a pipe. Returns whether it did:
-    /// it does not where a command is on its way for more than a second, or another reader has asked.
+    /// Ends each feed so that the next run begins, and wakes the readers that wait for a pipe. Returns false, and ends
+    /// no feed, where the run cannot be renewed, a command is on its way for more than a second, or another reader has
+    /// asked.
     ///
     /// Believed: as [`Renewal::ask`] (rotation).
     pub fn renew(&self, rt: &R) -> bool {

@@ -28,7 +28,7 @@ pub enum Source<'a, R: Files + Clock, I: Read + Drop> {
     Device(Stream<'a, R, R::File>),
     /// The input of the program.
     Input(Stream<'a, R, I>),
-    /// A feed whose file is not there yet.
+    /// A feed whose file does not exist yet or cannot be opened.
     Absent(Absent<'a, R>),
     /// A feed of the state directory that the call does not name, which ends at once.
     Unnamed,

@@ -58,8 +58,8 @@ impl<'a, R: Files + Clock, I: Read + Drop> Stream<'a, R, I> {
         }
     }
 
-    /// Reads once between `enter` and `leave` of the gate, and waits for the read; `None` where the reader was woken, and
-    /// what it read is dropped: the run has failed. Only a stream that is a pipe can be woken.
+    /// Reads once between `enter` and `leave` of the gate, and waits for the read. Returns `None` where the reader was
+    /// woken, and drops the bytes that it read, since the run has failed. Only a reader of a pipe can be woken.
     ///
     /// Believed: as [`Gate::wake`] (follow-full).
     fn read_through<W: Wait>(

@@ -1,7 +1,7 @@
 //! The clock feed of a run: at a fixed interval it makes a command with the time of the system's clock, so that timed
-//! events fall due. Where the file `status` lacks a change it makes one sooner, but at most one a second. It makes none
-//! while another feed is behind, and none while the clock cannot be believed. Its thread also looks once a second whether
-//! there is a new inventory.
+//! events fall due. Where the file `status` lacks a change it makes a command sooner, but at most one a second. It
+//! makes none while another feed is behind, and none while the clock cannot be trusted. Its thread also checks once a
+//! second whether there is a new inventory.
 ghost use Rattle.std.specs.Prelude.{◌≡◌, IfSome};
 ghost use Rattle.cmd_dispatch.specs.Feeds.{IsMade};
 
@@ -23,12 +23,12 @@ use std::time::{Clock, SystemTime, UNIX_EPOCH};
 pub struct Seen {
     /// The comparison of the two clocks; `None` where they could not be read yet.
     pub comparison: Option<Comparison>,
-    /// What the system said of the file of the inventory when its text was judged last.
+    /// The metadata of the inventory file when its text was last checked.
     pub judged: Option<Look>,
 }
 
 impl Seen {
-    /// Nothing was seen.
+    /// The value of a thread that has seen nothing yet.
     pub const NOTHING: Seen = Seen {
         comparison: None,
         judged: None,
@@ -80,8 +80,8 @@ pub struct Ticking<'a, R: Files + Clock> {
 }
 
 impl<'a, R: Files + Clock> Ticking<'a, R> {
-    /// A clock feed that makes a command every `every` seconds, for the first time after `every` seconds. With 0 it
-    /// makes none, and looks at no inventory.
+    /// A clock feed that makes a command every `every` seconds, the first after `every` seconds. With 0 it makes none,
+    /// and checks no inventory.
     pub fn new(
         rt: &'a R,
         alloc: Global,
@@ -142,7 +142,7 @@ impl<'a, R: FeedSystem> Ticking<'a, R> {
         }
     }
 
-    /// Looks at the inventory once a second, where it is watched.
+    /// Checks the inventory once a second, where it is watched.
     ///
     /// Believed: as [`InventoryWatch::look_again`] (live-inventory).
     fn watch_inventory(&mut self) {
@@ -163,7 +163,7 @@ impl<'a, R: FeedSystem> Ticking<'a, R> {
         self.looks >= u64::from(self.every) * LOOKS_A_SECOND
     }
 
-    /// Waits until a command is due, no feed is behind and the system's clock can be believed, and makes the command.
+    /// Waits until a command is due, no feed is behind and the system's clock can be trusted, and makes the command.
     /// Returns `None` where `every` is 0, all feeds that the call names have ended, or the run is ending.
     pub fn next<W: Wait>(&mut self, rt: &W) -> Option<Stamped>
         ensures { IfSome result IsMade }

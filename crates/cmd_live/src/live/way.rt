@@ -22,7 +22,7 @@ pub enum Way<F: Drop> {
 }
 
 /// Opens the pipe of this node under `path` for writing, and for reading too, since opening for writing alone waits for
-/// a reader. `None` where the path is that of another file, or the pipe is not opened.
+/// a reader. `None` where the path refers to another file, or the pipe cannot be opened.
 ///
 /// Believed: no other file is opened or written (premises 8 and 10; follow-full).
 fn open_node<R: Files>(rt: &R, path: &str, node: Node) -> Option<R::File> {
@@ -40,7 +40,7 @@ fn open_node<R: Files>(rt: &R, path: &str, node: Node) -> Option<R::File> {
     }
 }
 
-/// Opens the pipe of this node, which the process has open, as [`open_node`] does: it may have no other name any more.
+/// Opens the pipe of this node, which the process has open, as [`open_node`] does: the pipe may have no other name.
 ///
 /// Believed: as [`open_node`] (follow-full).
 fn open_unnamed<R: Files>(rt: &R, alloc: Global, node: Node) -> Option<R::File> {

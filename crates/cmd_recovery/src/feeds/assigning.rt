@@ -1,5 +1,6 @@
-//! Assigns numbers to the feeds of a run. A feed of the state directory keeps its number, in whatever order the call
-//! names the feeds, and also where it leaves the feed out; a new feed gets the next number. No file is read or written.
+//! Assigns numbers to the feeds of a run. A feed of the state directory keeps its number, whatever the order in which
+//! the call names the feeds, and even if the call leaves it out; a new feed gets the next number. No file is read or
+//! written.
 ghost use Rattle.std.specs.Prelude.{◌≡◌, ◌<◌, ◌≤◌, ◌++◌, ◌∷◌, [], true, false, length, map, drop, All, IfSome, IfOk, IfErr, OnOk, if◌then◌else◌};
 ghost use Rattle.cmd_types.specs.declared.entry.TheConstants.{MOST_SENDERS};
 ghost use Rattle.cmd_types.specs.Bytes.{Lacks};
@@ -130,11 +131,11 @@ fn add_clock(
 }
 
 /// Assigns each feed of a run its number (profile). `feeds` are the feeds of the directory, which keep their numbers;
-/// `words` are the paths that the call names, in any order. The clock feed of the directory remains without being
-/// named. The call may leave out feeds of the directory, whose numbers stay, if it then names no new one: a new path may
-/// lead to a feed that is left out, and its commands would be taken twice. Of feeds with the same path, those with the
-/// lowest numbers are named first. New feeds get the next numbers, in the order of `words`; last comes a new clock feed
-/// where `has_clock` is true and there is none.
+/// `words` are the paths that the call names, in any order. The clock feed of the directory remains although the call
+/// does not name it. The call may leave out feeds of the directory, whose numbers stay, unless it also names a new
+/// feed: the new path might lead to a feed that is left out, whose commands would then be taken twice. Of feeds with
+/// the same path, those with the lowest numbers are named first. New feeds get the next numbers, in the order of
+/// `words`; last comes a new clock feed where `has_clock` is true and the directory has none.
 ///
 /// # Errors
 /// [`AssignFault`]. Where both [`AssignFault::TooMany`] and [`AssignFault::Feeds`] hold, it is

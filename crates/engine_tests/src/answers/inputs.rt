@@ -1,13 +1,13 @@
-//! Bundles and files that have no answer, and why.
+//! Bundles and files for which nothing is printed, and why.
 use crate::options::OPTIONS;
 use cmd_answer::{FilesStop, Stop, bundle_in, open_files};
 use cmd_options::FilesCall;
 use std::test::Fail;
 
-/// Bundles, and why each has no answer.
+/// Bundles, and the stop of each.
 const BUNDLES: &[(&[u8], Stop)] = &[
     (b"host;web;1;0;;\n", Stop::Feeds),
-    // An inventory at fault without a feed.
+    // A faulty inventory without a feed.
     (b"host;web;1\n", Stop::Feeds),
     (b"host;web;1\n---\n", Stop::Inventory { line: 1, cause: 1 }),
 ];
@@ -20,7 +20,7 @@ fn bundles_without_an_answer(rt: HostRuntime) {
     }
 }
 
-/// The path of an inventory, those of feeds, and why they have no answer.
+/// The path of an inventory, the paths of feeds, and the stop.
 const FILES: &[(&str, &[&str], FilesStop<'static>)] = &[
     // No file is opened where there is no feed.
     ("/nowhere/inventory", &[], FilesStop::Other(Stop::Feeds)),
@@ -29,7 +29,7 @@ const FILES: &[(&str, &[&str], FilesStop<'static>)] = &[
         &["/nowhere/feed"],
         FilesStop::Open("/nowhere/inventory"),
     ),
-    // A directory is opened, and not read.
+    // A directory can be opened, but not read.
     ("/", &["/dev/null"], FilesStop::Open("/")),
     (
         "/dev/null",

@@ -1,4 +1,4 @@
-//! The monitor where any one allocation is refused: what was refused is seen, and the same work done again continues.
+//! The monitor where any single allocation is refused: the refusal is reported, and the same work done again continues.
 //! `bench/refuse-each engine_tests engine::memory` refuses each in turn.
 mod states;
 
@@ -143,6 +143,42 @@ notice;900;RECOVERY;web;http;OK;2;bob
 ",
 };
 
+/// As `WEB`, with problems that are notified by the clock.
+const BY_CLOCK: &[&[u8]] = &[
+    b"contact;ann;d,u,r,s;w,u,c,r,s",
+    b"contact;bob;d,r;c,r",
+    b"host;web;3;1800;d,u,r,s;ann",
+    b"service;web;http;3;600;w,u,c,r,s;ann",
+    b"escalation;web;http;2;0;300;c,r;bob",
+    b"option;tell_by_clock;1",
+];
+
+const STANDING: MemoryRow = MemoryRow {
+    inventory: BY_CLOCK,
+    feed: b"[100] PROCESS_SERVICE_CHECK_RESULT;web;http;2;down
+[110] PROCESS_SERVICE_CHECK_RESULT;web;http;2;down
+[120] PROCESS_SERVICE_CHECK_RESULT;web;http;2;down
+[719] DEL_HOST_COMMENT;0
+[720] DEL_HOST_COMMENT;0
+[1019] DEL_HOST_COMMENT;0
+[1020] DEL_HOST_COMMENT;0
+",
+    report: b"> clock;1020
+program;1;1;1
+host;web;UP;HARD;1;0;0;0;1;1;
+service;web;http;CRITICAL;HARD;3;0;0;3;1;1;down
+contact;ann;1;1
+contact;bob;1;1
+rejected;0;4;4
+rejected;0;5;4
+rejected;0;6;4
+rejected;0;7;4
+notice;120;PROBLEM;web;http;CRITICAL;1;ann
+notice;720;PROBLEM;web;http;CRITICAL;2;bob
+notice;1020;PROBLEM;web;http;CRITICAL;3;bob
+",
+};
+
 const CUSTOM: MemoryRow = MemoryRow {
     inventory: WEB,
     feed: b"[100] SEND_CUSTOM_SVC_NOTIFICATION;web;http;0;ann;hi
@@ -168,7 +204,7 @@ notice;160;CUSTOM;web;http;OK;2;bob
 ",
 };
 
-/// The monitor is broken behind so many entries, and takes none from then on.
+/// Asserts that the monitor is broken after this number of entries, and takes none from then on.
 fn check_broken(
     alloc: Global,
     rt: &impl Abort,
@@ -182,7 +218,7 @@ fn check_broken(
     }
 }
 
-/// Applies an entry. After it ran out of memory the monitor is broken, and says so from then on.
+/// Applies an entry. If memory ran out, asserts that the monitor is broken from then on.
 fn apply_whole(
     alloc: Global,
     rt: &impl Abort,
@@ -200,7 +236,7 @@ fn apply_whole(
     Ok(())
 }
 
-/// The report behind a few bytes. After it ran out of memory they are as they were, and the same call continues.
+/// The report after a few bytes. If memory ran out, asserts that these bytes are unchanged, and repeats the call.
 fn report(alloc: Global, rt: &impl Abort, monitor: &Monitor) -> Result<Vec<u8>, Memory> {
     let mut out = Vec::from_slice(alloc, b"> ")?;
     if append_report(rt, alloc, monitor, &mut out).is_err() {
@@ -229,7 +265,7 @@ fn told_of(alloc: Global, rt: &impl Abort, row: &MemoryRow) -> Result<Vec<u8>, M
     told_after(alloc, rt, &mut monitor, journal.entries())
 }
 
-/// Compares the report with the row's. Where memory was refused, all is done once more.
+/// Compares the report with that of the row. Where memory was refused, everything is done once more.
 fn check(rt: &(impl Abort + AllocGlobal), row: &MemoryRow) -> Result<(), Fail> {
     let told = match told_of(rt.alloc(), rt, row) {
         Ok(told) => told,
@@ -239,7 +275,7 @@ fn check(rt: &(impl Abort + AllocGlobal), row: &MemoryRow) -> Result<(), Fail> {
     Ok(())
 }
 
-/// A journal of two senders, and the report of what it means.
+/// A journal of two senders, and the report of the state to which it leads.
 const JOURNAL: &[u8] = b"0 1 [1] ADD_HOST_COMMENT;web;1;ann;one
 1 1 [2] PROCESS_HOST_CHECK_RESULT;web;1;dead
 0 2 [3] DEL_HOST_COMMENT;7
@@ -291,6 +327,11 @@ fn a_monitor_of_notices(rt: HostRuntime) -> Result<(), Fail> {
 }
 
 #[test]
+fn a_monitor_of_a_problem_that_stands(rt: HostRuntime) -> Result<(), Fail> {
+    check(&rt, &STANDING)
+}
+
+#[test]
 fn a_monitor_of_custom_notices(rt: HostRuntime) -> Result<(), Fail> {
     check(&rt, &CUSTOM)
 }
@@ -305,7 +346,7 @@ fn a_monitor_of_downtimes(rt: HostRuntime) -> Result<(), Fail> {
     check(&rt, &DOWNTIMES)
 }
 
-/// A feed, and a clock as sender 1.
+/// A feed, and a clock feed as sender 1.
 const FOLLOWED: &[u8] = b"0 1 [100] PROCESS_SERVICE_CHECK_RESULT;web;http;2;down
 0 2 [150] DEL_HOST_COMMENT;7
 0 3 [160] PROCESS_SERVICE_CHECK_RESULT;web;http;2;down
@@ -335,8 +376,8 @@ fn tell_of(
     }
 }
 
-/// What a monitor has to print after each entry. After it ran out of memory nothing was appended or forgotten, and the same
-/// call continues.
+/// The lines that a monitor has to print after each entry. If memory ran out, asserts that nothing was appended or
+/// forgotten, and repeats the call.
 fn told_one_by_one(
     alloc: Global,
     rt: &impl Abort,

@@ -1,4 +1,4 @@
-//! The state of a monitor: what is written of it, that a monitor resumes from it, and what is refused.
+//! The state of a monitor: the text that is written, the monitor that resumes from it, and the texts that are refused.
 use super::{
     WEB, append_report, append_state, apply, compare, first_monitor, inventory_of, journaled,
 };
@@ -9,8 +9,8 @@ use std::alloc::Global;
 use std::process::Abort;
 use std::test::Fail;
 
-/// A problem that is hard at the third result, acknowledged; a comment that stands and one that is
-/// gone; a downtime that is active and starts another; notices of a host held back.
+/// A problem that is hard at the third result, acknowledged; a comment, and one that was deleted; a downtime that is
+/// active and starts another; notices of a host held back.
 const BEFORE: &[u8] = b"[100] PROCESS_SERVICE_CHECK_RESULT;web;http;2;disk full
 [200] PROCESS_SERVICE_CHECK_RESULT;web;http;2;disk full
 [300] PROCESS_SERVICE_CHECK_RESULT;web;http;2;disk full
@@ -38,7 +38,7 @@ downtime;2;1;web;http;450;900;0;1;120;440;active;500;620;ann;after
 end;13
 ";
 
-/// The same in version 1, which has no moments of objects.
+/// The same state in version 1, which has no moments of objects.
 const FIRST_STATE: &[u8] = b"state;1
 clock;550
 entries;9
@@ -55,7 +55,7 @@ downtime;2;1;web;http;450;900;0;1;120;440;active;500;620;ann;after
 end;13
 ";
 
-/// What comes then: the next comment has id 3, the ends of the downtimes fall due, and the problem is gone.
+/// Further entries: the next comment has id 3, the ends of the downtimes fall due, and the problem is over.
 const AFTER: &[u8] = b"[700] PROCESS_SERVICE_CHECK_RESULT;web;http;0;fine
 [800] ADD_SVC_COMMENT;web;http;1;bob;done
 ";
@@ -75,7 +75,7 @@ fn run(
     monitor.tell(alloc, &mut told)
 }
 
-/// The monitor after the entries before.
+/// The monitor after the entries `BEFORE`.
 fn before(rt: &impl Abort, alloc: Global) -> Result<Monitor, Memory> {
     let journal = journaled(rt, alloc, BEFORE)?;
     let mut monitor = first_monitor(rt, alloc, WEB)?;
@@ -83,7 +83,7 @@ fn before(rt: &impl Abort, alloc: Global) -> Result<Monitor, Memory> {
     Ok(monitor)
 }
 
-/// Appends the report after the entries that come then.
+/// Appends the report after the entries `AFTER`.
 fn report_after(rt: &impl Abort, alloc: Global, mut monitor: Monitor) -> Result<Vec<u8>, Memory> {
     let journal = journaled(rt, alloc, AFTER)?;
     for entry in journal.entries() {
@@ -152,7 +152,7 @@ fn a_state_of_version_1_is_upgraded(rt: HostRuntime) -> Result<(), Fail> {
     Ok(())
 }
 
-/// A state with one piece in the place of another, and where and why it is refused.
+/// A state in which one piece is replaced by another, and the line and the cause of its fault.
 struct StateRow {
     old: &'static [u8],
     new: &'static [u8],
@@ -251,7 +251,7 @@ const REFUSED: &[StateRow] = &[
         line: 6,
         cause: StateCause::NotAsWritten,
     },
-    // The beginning of a hard problem is missing, and one of no problem is there.
+    // The beginning of a hard problem is missing, and an object without a problem has one.
     StateRow {
         old: b"300;100;300;disk full",
         new: b"300;100;;disk full",
@@ -349,7 +349,7 @@ const REFUSED: &[StateRow] = &[
         line: 12,
         cause: StateCause::BadLine,
     },
-    // Moments of a fate that is active are missing.
+    // The moments of an active downtime are missing.
     StateRow {
         old: b"430;active;500;600",
         new: b"430;active;;",
@@ -376,7 +376,7 @@ const REFUSED: &[StateRow] = &[
     },
 ];
 
-/// The same of the state in version 1.
+/// The same rows for the state in version 1.
 const REFUSED_FIRST: &[StateRow] = &[
     StateRow {
         old: b"2;1;3;2;1;300",
@@ -420,7 +420,7 @@ const REFUSED_FAR: &[FarRow] = &[
     },
 ];
 
-/// The text with the first such piece replaced, which is there.
+/// The text with the first piece `old` replaced; the text must have such a piece.
 fn replaced(alloc: Global, whole: &[u8], old: &[u8], new: &[u8]) -> Result<Vec<u8>, Memory> {
     let mut text = Vec::new(alloc);
     for place in 0..whole.len() {
@@ -435,7 +435,7 @@ fn replaced(alloc: Global, whole: &[u8], old: &[u8], new: &[u8]) -> Result<Vec<u
     Ok(text)
 }
 
-/// Compares the fault of a text with the one that is wanted.
+/// Compares the fault of a text with `wanted`.
 fn refuse(rt: &impl Abort, alloc: Global, text: &[u8], wanted: StateFault) -> Result<(), Fail> {
     let inventory = inventory_of(rt, alloc, WEB)?;
     let Err(fault) = read_state(alloc, inventory, text) else {
@@ -490,20 +490,20 @@ fn the_first_of_two_faults_is_named(rt: HostRuntime) -> Result<(), Fail> {
     Ok(())
 }
 
-/// Texts of feeds, and where and why each is refused.
+/// Texts of feeds, and the line and the cause of the fault of each.
 const REFUSED_FEEDS: &[(&[u8], u64, StateCause)] = &[
     (
         b"feeds;0;x\nfeed;0;2;0;\nlast;[9] RESTART_PROGRAM\n",
         1,
         StateCause::BadLine,
     ),
-    // The clock is none of the feeds.
+    // The number of the clock feed is that of no feed.
     (
         b"feeds;1;1\nfeed;0;2;0;\nlast;[9] RESTART_PROGRAM\n",
         1,
         StateCause::BadValue,
     ),
-    // More commands of earlier files than there are.
+    // More commands of earlier files than commands in all.
     (
         b"feeds;0;1\nfeed;0;2;3;\nlast;[9] RESTART_PROGRAM\n",
         2,

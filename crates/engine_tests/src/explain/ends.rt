@@ -1,4 +1,4 @@
-//! Tests of the words for why a run did not begin, failed or ended, and how a feed ended.
+//! Tests of the words for the reason why a run did not begin, failed or ended, and for the ending of a feed.
 use super::{LineMeaning, expect_meanings};
 use std::test::*;
 

@@ -4,11 +4,10 @@ use cmd_words::{WordsFault, follow_of};
 use std::alloc::AllocGlobal;
 use std::process::Abort;
 
-/// The numbers that words give: the capacity and the piece, and the seconds of the clock and of the
-/// bound.
+/// The numbers that words set: the capacity and the piece, and the seconds of the clock and of the bound.
 type Numbers = (usize, usize, u32, u32);
 
-/// Words before the paths, whether feeds are drained, and the numbers that the words give.
+/// Words before the paths, whether feeds are drained, and the numbers that the words set.
 const FOLLOWS: &[(&[&str], bool, Numbers)] = &[
     (&["follow", "i", "f"], false, (64, 4_096, 10, 60)),
     (&["follow", "--drain", "i", "f"], true, (64, 4_096, 0, 0)),
@@ -70,7 +69,7 @@ const FOLLOWS: &[(&[&str], bool, Numbers)] = &[
     ),
 ];
 
-/// The words ask for the inventory `i` and the feed `f`, followed so.
+/// Asserts that the words ask for the inventory `i` and the feed `f`, followed with these options.
 fn expect_follow<'a>(
     rt: &(impl Abort + AllocGlobal),
     words: &'a [&'a str],
@@ -108,7 +107,7 @@ fn followed_feeds(rt: HostRuntime) {
     }
 }
 
-/// Words, where the run keeps what it takes, whether it syncs, and the most entries of a segment.
+/// Words, where the run keeps its commands, whether it syncs, and the most entries of a segment.
 const KEPT: &[(&[&str], Option<&str>, bool, u32)] = &[
     (
         &["follow", "--state", "d", "i", "f"],
@@ -136,7 +135,7 @@ const KEPT: &[(&[&str], Option<&str>, bool, u32)] = &[
         true,
         268_435_455,
     ),
-    // Where nothing is kept the limit has no effect.
+    // Where nothing is kept, the limit has no effect.
     (
         &["follow", "--no-sync", "--limit", "2", "i", "f"],
         None,
@@ -162,7 +161,7 @@ fn kept_feeds(rt: HostRuntime) {
     }
 }
 
-/// Words with each number of feeds. A call without a feed is refused where it is run.
+/// Words with each number of feeds. A call without a feed is refused when it is run.
 const FEEDS: &[(&[&str], &[&str])] = &[
     (&["follow", "i"], &[]),
     (&["follow", "i", "f", "-"], &["f", "-"]),

@@ -1,6 +1,6 @@
-//! The file `status` of a state directory, which shows the present state of a run. The file is written as the run
-//! begins, at most once a second while commands come, and as the run ends. A change that it lacks is shown with the next
-//! command of the clock feed, which then comes within two seconds.
+//! The file `status` of a state directory, which shows the present state of a run. The file is written when the run
+//! begins, at most once a second while commands come, and when the run ends. A change that the file lacks is shown with
+//! the next command of the clock feed, which then comes within two seconds.
 use crate::state_stops::status_stop;
 use cmd_answer::Stop;
 use cmd_dispatch::{Observer, RunCause};

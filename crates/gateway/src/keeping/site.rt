@@ -26,11 +26,11 @@ use std::rt::Files;
 /// What the error stream gets when a run begins.
 #[derive(Clone, Copy, PartialEq, Eq)]
 pub enum News {
-    /// That feeds are followed: the run is the first one of the process.
+    /// The line that feeds are followed: the run is the first one of the process.
     Following,
-    /// The counts of the new inventory that ended the run before.
+    /// The counts of the new inventory that ended the previous run.
     NewInventory,
-    /// Nothing: a replaced file ended the run before.
+    /// Nothing: a replaced file ended the previous run.
     Nothing,
 }
 
@@ -47,8 +47,8 @@ pub struct Site<'a> {
     pub news: News,
 }
 
-/// Reads the text of the inventory file, which has no fault, and ends its last line. Where the number of feeds is out of
-/// range, fails with `Stop::Feeds`, and where a feed is named twice with `Stop::FeedTwice`, and reads no file.
+/// Reads the text of the inventory file, which must have no fault, and ends its last line. Where the number of feeds is
+/// out of range, fails with `Stop::Feeds`, and where a feed is named twice with `Stop::FeedTwice`, and reads no file.
 pub(crate) fn read_inventory<'a, R: Files>(call: &Call<'a, R>) -> Result<Vec<u8>, FilesStop<'a>>
     ensures count { OnOk result (IsSenderCount (length call.now.asked.now.feeds.items)) }
     ensures once { OnOk result (has_twice (map (λ p. p.now) call.now.asked.now.feeds.items) ≡ false) }
@@ -64,9 +64,9 @@ pub(crate) fn read_inventory<'a, R: Files>(call: &Call<'a, R>) -> Result<Vec<u8>
     end_last_line(text).map_err(|_| FilesStop::Other(Stop::Memory))
 }
 
-/// Locks the state directory at `path` by its file `lock`, which is created where it is missing, and returns the lock with
-/// the directory's node. Nothing else in the directory is read or written. Fails where there is no directory, another
-/// program has locked it, the file cannot be locked, or memory runs out.
+/// Locks the state directory at `path` by its file `lock`, which is created where it is missing, and returns the lock
+/// with the directory's node. Nothing else in the directory is read or written. Fails where there is no directory,
+/// another program has locked it, the file cannot be locked, or memory runs out.
 pub(crate) fn lock_directory<R: System>(
     call: &Call<'_, R>,
     path: &str,
@@ -96,8 +96,9 @@ fn assigned<R>(call: &Call<'_, R>, feeds: &KeptFeeds) -> Result<Assigned, Stop>
     assign(call.alloc, feeds, &call.asked.feeds, has_clock).map_err(assign_stop)
 }
 
-/// The feeds of the directory and of the call but the clock feed, in order of their numbers. The number of a feed is the
-/// index of its role in `roles`. A feed that the call does not name has the path [`UNNAMED`]. Fails if memory runs out.
+/// The feeds of the directory and of the call, except the clock feed, in order of their numbers. The number of a feed
+/// is the index of its role in `roles`. A feed that the call does not name has the path [`UNNAMED`]. Fails if memory
+/// runs out.
 fn named_feeds<'a, R>(call: &Call<'a, R>, roles: &[Role]) -> Result<Vec<Numbered<'a>>, Memory> {
     let mut feeds = Vec::new(call.alloc);
     for number in 0..roles.len() {

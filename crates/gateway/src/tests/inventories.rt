@@ -1,4 +1,4 @@
-//! What a text that the file of the inventory has now is to a run.
+//! The comparison of the inventory file's text with the text of a run.
 use cmd_answer::FollowLine;
 use cmd_live::{end_last_line, inventory_line, new_inventory};
 use mon_inventory::Cause;

@@ -66,7 +66,7 @@ fn what_is_taken_back_is_passed_on_again(rt: HostRuntime) -> Result<(), Fail> {
     Ok(())
 }
 
-/// Lines are counted over all reads, and what was not passed on stays.
+/// Lines are counted over all reads, and bytes that were not passed on are kept.
 #[test]
 fn a_line_is_taken_back_by_its_number(rt: HostRuntime) -> Result<(), Fail> {
     let alloc = rt.alloc();
@@ -87,7 +87,7 @@ fn a_line_is_taken_back_by_its_number(rt: HostRuntime) -> Result<(), Fail> {
     Ok(())
 }
 
-/// What is left begins with a line, although a part of it was passed on.
+/// The bytes left over begin with a line, although a part of the line was passed on.
 #[test]
 fn a_part_of_a_line_is_taken_back(rt: HostRuntime) -> Result<(), Fail> {
     let alloc = rt.alloc();
@@ -104,7 +104,7 @@ fn a_part_of_a_line_is_taken_back(rt: HostRuntime) -> Result<(), Fail> {
     Ok(())
 }
 
-/// What is left of a line that is too long begins no command.
+/// The rest of a line that is too long begins no command.
 #[test]
 fn a_rest_of_a_long_line_is_no_command(rt: HostRuntime) -> Result<(), Fail> {
     let alloc = rt.alloc();

@@ -1,4 +1,4 @@
-//! The lines of a feed that were given last.
+//! The lines of a feed that its sender got last.
 use cmd_live::SeenLines;
 use std::test::Fail;
 
@@ -9,7 +9,7 @@ const ROWS: &[(&[&[u8]], &[(u64, &[u8])])] = &[
         &[b"one\ntwo\nthr"],
         &[(1, b"one"), (2, b"two"), (3, b"thr"), (4, b"")],
     ),
-    // Lines that were ended before the last piece are forgotten, and one that was not is continued.
+    // Lines that had ended before the last piece are forgotten, and an unended one is continued.
     (
         &[b"one\ntwo\nthr", b"ee\nfour"],
         &[(3, b"three"), (4, b"four")],
@@ -35,7 +35,7 @@ fn lines_are_kept_until_the_next_piece(rt: HostRuntime) -> Result<(), Fail> {
     Ok(())
 }
 
-/// Of a line that is not ended the first bytes are kept, however long it is.
+/// Of an unended line the first bytes are kept, however long the line is.
 #[test]
 fn a_long_line_is_kept_by_its_beginning(rt: HostRuntime) -> Result<(), Fail> {
     let alloc = rt.alloc();

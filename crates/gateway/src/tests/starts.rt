@@ -1,4 +1,4 @@
-//! The position where the reading of a file begins that earlier runs have read.
+//! The position where the reading of a file begins, after earlier runs have read a part of it.
 use cmd_live::{Known, Start, find_start};
 use std::test::Fail;
 

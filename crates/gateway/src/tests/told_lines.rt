@@ -1,4 +1,4 @@
-//! The told lines of a state directory, each behind its key.
+//! The told lines of a state directory, each after its key.
 use cmd_live::{ToldWanted, put_told_lines};
 use cmd_options::ToldPlace;
 use std::test::Fail;

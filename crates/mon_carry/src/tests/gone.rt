@@ -69,7 +69,7 @@ fn what_is_gone_leaves_nothing_but_its_ids(rt: HostRuntime) -> Result<(), Fail> 
 }
 
 /// Whether the problem of a host is hard, its attempt, and since when it is hard, after the host got a new greatest
-/// attempt. A problem that was hard before was so since 7.
+/// attempt. A problem that was hard before has been hard since 7.
 fn under_attempts(
     rt: &impl Abort,
     alloc: Global,

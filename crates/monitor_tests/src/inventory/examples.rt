@@ -55,6 +55,20 @@ fn escalations(rt: HostRuntime) -> Result<(), Fail> {
 }
 
 #[test]
+fn directives(rt: HostRuntime) -> Result<(), Fail> {
+    let alloc = rt.alloc();
+    let text = b"host;web;3;60;;\nservice;web;http;3;60;;\ndelay;web;http;300\nvolatile;web;http\n";
+    let inventory = Inventory::parse(alloc, text)?;
+    let Some(http) = inventory.service_of(b"web", b"http") else {
+        return Err(Fail::new("the service http"));
+    };
+    let directives = inventory.directives(http);
+    assert_eq!(rt; directives.first_notification_delay, Some(300));
+    assert!(rt; directives.is_volatile);
+    Ok(())
+}
+
+#[test]
 fn faults(rt: HostRuntime) -> Result<(), Fail> {
     let alloc = rt.alloc();
     let Err(fault) = Inventory::parse(alloc, b"\nhost;web;0;60;d;\n") else {

@@ -25,6 +25,11 @@ const ASKED: Facts = Facts {
     notified: None,
     last: Some(499),
     interval: 0,
+    volatile: false,
+    since: Some(499),
+    delay: Some(300),
+    above_back: Some(499),
+    settle: Some(300),
 };
 
 /// Bits above the three that are read, all of them on.

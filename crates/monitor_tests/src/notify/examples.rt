@@ -24,6 +24,11 @@ const FACTS: Facts = Facts {
     notified: None,
     last: None,
     interval: 600,
+    volatile: false,
+    since: Some(100),
+    delay: None,
+    above_back: None,
+    settle: None,
 };
 
 #[test]

@@ -20,6 +20,11 @@ const AGAIN: Facts = Facts {
     notified: Some(2),
     last: Some(220),
     interval: 600,
+    volatile: false,
+    since: Some(100),
+    delay: None,
+    above_back: None,
+    settle: None,
 };
 
 /// The same a second too early.
@@ -138,6 +143,97 @@ const DELAYS: &[Row] = &[
 #[test]
 fn a_delay_ends_at_its_moment(rt: HostRuntime) {
     expect_problems(&rt, DELAYS);
+}
+
+/// The first notification delay, whatever the number; and what is awaited, for a first notice alone.
+const YOUNG: &[Row] = &[
+    (
+        Facts {
+            since: Some(100),
+            delay: Some(721),
+            ..AGAIN
+        },
+        false,
+    ),
+    (
+        Facts {
+            since: Some(100),
+            delay: Some(720),
+            ..AGAIN
+        },
+        true,
+    ),
+    (
+        Facts {
+            above_back: Some(700),
+            settle: Some(121),
+            number: 0,
+            ..AGAIN
+        },
+        false,
+    ),
+    (
+        Facts {
+            above_back: Some(700),
+            settle: Some(120),
+            number: 0,
+            ..AGAIN
+        },
+        true,
+    ),
+    (
+        Facts {
+            above_back: Some(700),
+            settle: Some(121),
+            ..AGAIN
+        },
+        true,
+    ),
+];
+
+#[test]
+fn a_problem_that_is_too_young_is_held_back(rt: HostRuntime) {
+    expect_problems(&rt, YOUNG);
+}
+
+/// A bad result of a volatile service needs neither a new code nor a time, but passes the other tests.
+const VOLATILE: &[Row] = &[
+    (
+        Facts {
+            volatile: true,
+            ..EARLY
+        },
+        true,
+    ),
+    (
+        Facts {
+            volatile: true,
+            interval: 0,
+            ..EARLY
+        },
+        true,
+    ),
+    (
+        Facts {
+            volatile: true,
+            hard: false,
+            ..EARLY
+        },
+        false,
+    ),
+    (
+        Facts {
+            volatile: true,
+            not_before: Some(820),
+            ..EARLY
+        },
+        false,
+    ),
+];
+
+#[test]
+fn each_bad_result_of_a_volatile_service_is_told(rt: HostRuntime) {
+    expect_problems(&rt, VOLATILE);
 }
 
 const INTERVALS: &[Row] = &[

@@ -5,7 +5,7 @@ use Rattle.cmd_explain.specs.Words.{fault_words}
 use Rattle.cmd_explain.specs.Meanings.{together}
 use Rattle.cmd_explain.proofs.showing.put_shown_line.Goals as goal
 
--- what is appended behind a part is appended behind both
+-- two texts appended one after another are one appended text
 behind : (x y a r : List ℕ) → y ≡ x ++ a → y ++ r ≡ x ++ (a ++ r)
 behind x y a r is = ap (λ (l : List ℕ). l ++ r) is ∙ append_assoc x a r
 

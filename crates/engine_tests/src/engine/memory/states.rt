@@ -1,4 +1,4 @@
-//! The state of a monitor where any one allocation is refused: it is written and read back.
+//! The state of a monitor where any single allocation is refused: it is written and read back.
 use super::super::{SILENT, append_state, compare, first_monitor, inventory_of, journaled};
 use super::apply_whole;
 use cmd_types::Memory;
@@ -27,7 +27,7 @@ downtime;1;1;web;http;2;9;1;0;0;2;active;2;9;bob;move
 end;10
 ";
 
-/// The state behind a few bytes. After it ran out of memory they are as they were, and the same call continues.
+/// The state after a few bytes. If memory ran out, asserts that these bytes are unchanged, and repeats the call.
 fn state(alloc: Global, rt: &impl Abort, monitor: &Monitor) -> Result<Vec<u8>, Memory> {
     let mut out = Vec::from_slice(alloc, b"> ")?;
     if append_state(rt, monitor, &mut out).is_err() {

@@ -1,4 +1,4 @@
-use Rattle.mon_engine.proofs.ToldLemmas.{suppressed_problems_are_not_told}
+use Rattle.mon_engine.proofs.SuppressedLemmas.{suppressed_problems_are_not_told}
 use Rattle.mon_engine.proofs.laws.suppressed_problems_are_not_told.Goals as goal
 
 pub returns : goal.returns

@@ -20,6 +20,7 @@ returns-clause-indexed c =
       services_many = r.services_many;
       escalations_told = r.escalations_told;
       escalations_many = r.escalations_many;
+      directives_many = r.directives_many;
       few_contacts = few_push _ _ _ _ (leb-false MOST_CONTACTS _ c.requires.fine.few) pushed;
       few_objects = r.few_objects;
       few_escalations = r.few_escalations;

@@ -30,6 +30,7 @@ returns-clause-indexed c =
       services_many = r.services_many;
       escalations_told = escalations_told_more s.escalations.items _ s.object_escalations.items _ _ object _ r.escalations_told (let m = r.escalations_many in omega arith) told pushed (search rules) (search rules);
       escalations_many = many_set s.object_escalations.items _ s.objects.items object _ r.escalations_many told;
+      directives_many = r.directives_many;
       few_contacts = r.few_contacts;
       few_objects = r.few_objects;
       few_escalations = few_push _ _ _ _ (leb-false MOST_ESCALATIONS _ c.requires.fine.few) pushed;

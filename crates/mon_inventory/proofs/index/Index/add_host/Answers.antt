@@ -22,6 +22,7 @@ returns-clause-indexed c =
       services_many = as_many_push _ _ _ _ _ _ r.services_many added.services added.objects;
       escalations_told = rw added.escalations (escalations_told_pad s.escalations.items s.object_escalations.items _ r.escalations_told added.object_escalations);
       escalations_many = as_many_push _ _ _ _ _ _ r.escalations_many added.object_escalations added.objects;
+      directives_many = as_many_push _ _ _ _ _ _ r.directives_many added.directives added.objects;
       few_contacts = rw added.contacts r.few_contacts;
       few_objects = few_push _ _ _ _ (leb-false MOST_OBJECTS _ c.requires.fine.few) added.objects;
       few_escalations = rw added.escalations r.few_escalations;

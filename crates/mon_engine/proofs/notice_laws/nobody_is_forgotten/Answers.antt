@@ -1,0 +1,11 @@
+use Rattle.mon_engine.proofs.ByClockLemmas.{nobody_is_forgotten, nothing_is_told_by_the_clock, the_clock_tells_what_is_ready}
+use Rattle.mon_engine.proofs.notice_laws.nobody_is_forgotten.Goals as goal
+
+pub returns-clause-forgotten : goal.returns-clause-forgotten
+returns-clause-forgotten c = nobody_is_forgotten
+
+pub returns-clause-ready : goal.returns-clause-ready
+returns-clause-ready c = the_clock_tells_what_is_ready
+
+pub returns-clause-without : goal.returns-clause-without
+returns-clause-without c = nothing_is_told_by_the_clock
