@@ -29,7 +29,7 @@ module _ (laws : Laws) (a b c : ℕ) (h : a ≤ GREATEST_NUMBER) (k : b ≤ GREA
         codes "gateway: following " ++ (decimal a ++ rest),
         ap (λ (t : List ℕ). codes "gateway: following " ++ (decimal a ++ (codes " feeds, " ++ t))) (sym (append_assoc (decimal b) last (10 ∷ [])))
             ∙ ap (λ (t : List ℕ). codes "gateway: following " ++ t) (sym (append_assoc (decimal a) rest (10 ∷ []))),
-        known_by _ kind.Following (a ∷ b ∷ c ∷ []) (Some (Following a b c)) refl
+        known_by _ kind.Following (a ∷ b ∷ c ∷ []) (Some (Following a b c)) refl refl
             (ap (λ (t : List ℕ). codes "gateway: following " ++ t) (form_number laws a rest h)
             ∙ ap (λ (t : List ℕ). codes "gateway: following 0 feeds, " ++ t) (form_number laws b last k)
             ∙ ap (λ (t : List ℕ). codes "gateway: following 0 feeds, 0 entries, clock " ++ t) (form_last laws c l))
@@ -58,7 +58,7 @@ module _ (laws : Laws) (a b c : ℕ) (h : a ≤ GREATEST_NUMBER) (k : b ≤ GREA
         ap (λ (t : List ℕ). codes "gateway: feed " ++ (decimal a ++ (codes " waits: line " ++ (decimal b ++ (codes " is " ++ t))))) (sym (append_assoc (decimal c) last (10 ∷ [])))
             ∙ ap (λ (t : List ℕ). codes "gateway: feed " ++ (decimal a ++ (codes " waits: line " ++ t))) (sym (append_assoc (decimal b) more (10 ∷ [])))
             ∙ ap (λ (t : List ℕ). codes "gateway: feed " ++ t) (sym (append_assoc (decimal a) rest (10 ∷ []))),
-        known_by _ kind.Waits (a ∷ b ∷ c ∷ []) (Some (Waits a b c)) waits_other
+        known_by _ kind.Waits (a ∷ b ∷ c ∷ []) (Some (Waits a b c)) waits_other refl
             (ap (λ (t : List ℕ). codes "gateway: feed " ++ t) (form_number laws a rest h)
             ∙ ap (λ (t : List ℕ). codes "gateway: feed 0 waits: line " ++ t) (form_number laws b more k)
             ∙ ap (λ (t : List ℕ). codes "gateway: feed 0 waits: line 0 is " ++ t) (form_number laws c last l))
@@ -73,7 +73,7 @@ module _ (laws : Laws) (feed : ℕ) (h : feed ≤ GREATEST_NUMBER) where
   of_feed_known k rest known other form_is numbers_are is said = (
     codes "gateway: feed " ++ (decimal feed ++ rest),
     ap (λ (t : List ℕ). codes "gateway: feed " ++ t) (sym (append_assoc (decimal feed) rest (10 ∷ []))),
-    known_by _ k (feed ∷ []) (Some known) (names_none (decimal feed) rest other)
+    known_by _ k (feed ∷ []) (Some known) (names_none (decimal feed) rest other) refl
         (ap (λ (t : List ℕ). codes "gateway: feed " ++ t) (form_number laws feed rest h) ∙ ap (λ (t : List ℕ). codes "gateway: feed 0" ++ t) form_is ∙ sym is)
         (numbers_number laws feed rest h ∙ numbers_are)
         (small_one feed h) said,
@@ -102,7 +102,7 @@ module _ (laws : Laws) (seconds : ℕ) (h : seconds ≤ GREATEST_NUMBER) where
       let rest = codes " seconds ahead" in (
         codes "gateway: clock: " ++ (decimal seconds ++ rest),
         ap (λ (t : List ℕ). codes "gateway: clock: " ++ t) (sym (append_assoc (decimal seconds) rest (10 ∷ []))),
-        known_by _ kind.ClockAhead (seconds ∷ []) (Some (ClockAhead seconds)) refl
+        known_by _ kind.ClockAhead (seconds ∷ []) (Some (ClockAhead seconds)) refl refl
             (ap (λ (t : List ℕ). codes "gateway: clock: " ++ t) (form_number laws seconds rest h))
             (numbers_number laws seconds rest h)
             (small_one seconds h) refl,
@@ -119,7 +119,7 @@ module _ (laws : Laws) (a b : ℕ) (h : a ≤ GREATEST_NUMBER) (k : b ≤ GREATE
         codes "gateway: inventory: " ++ (decimal a ++ rest),
         ap (λ (t : List ℕ). codes "gateway: inventory: " ++ (decimal a ++ (codes " hosts, " ++ t))) (sym (append_assoc (decimal b) last (10 ∷ [])))
             ∙ ap (λ (t : List ℕ). codes "gateway: inventory: " ++ t) (sym (append_assoc (decimal a) rest (10 ∷ []))),
-        known_by _ kind.NewInventory (a ∷ b ∷ []) (Some (NewInventory a b)) refl
+        known_by _ kind.NewInventory (a ∷ b ∷ []) (Some (NewInventory a b)) refl refl
             (ap (λ (t : List ℕ). codes "gateway: inventory: " ++ t) (form_number laws a rest h)
             ∙ ap (λ (t : List ℕ). codes "gateway: inventory: 0 hosts, " ++ t) (form_number laws b last k))
             (numbers_number laws a rest h ∙ ap (λ (t : List ℕ). a ∷ t) (numbers_number laws b last k))
@@ -135,7 +135,7 @@ module _ (laws : Laws) (a b : ℕ) (h : a ≤ GREATEST_NUMBER) (k : b ≤ GREATE
         codes "gateway: told " ++ (decimal a ++ rest),
         ap (λ (t : List ℕ). codes "gateway: told " ++ (decimal a ++ (codes "." ++ t))) (sym (append_assoc (decimal b) last (10 ∷ [])))
             ∙ ap (λ (t : List ℕ). codes "gateway: told " ++ t) (sym (append_assoc (decimal a) rest (10 ∷ []))),
-        known_by _ kind.ToldMissing (a ∷ b ∷ []) (Some (ToldMissing a b)) refl
+        known_by _ kind.ToldMissing (a ∷ b ∷ []) (Some (ToldMissing a b)) refl refl
             (ap (λ (t : List ℕ). codes "gateway: told " ++ t) (form_number laws a rest h)
             ∙ ap (λ (t : List ℕ). codes "gateway: told 0." ++ t) (form_number laws b last k))
             (numbers_number laws a rest h ∙ ap (λ (t : List ℕ). a ∷ t) (numbers_number laws b last k))

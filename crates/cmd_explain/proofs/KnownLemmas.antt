@@ -24,13 +24,13 @@ use Rattle.cmd_explain.specs.declared.kinds.LineKind.{LineKind}
 use Rattle.cmd_explain.specs.declared.known.KnownLine.{KnownLine}
 use Rattle.cmd_explain.specs.Parts.{form, numbers, are_small}
 use Rattle.cmd_explain.specs.KnownLines.{form_of, line_of}
-use Rattle.cmd_explain.specs.Explained.{line_by_path, known_line}
+use Rattle.cmd_explain.specs.Explained.{line_by_path, line_by_times, known_line}
 use Rattle.cmd_explain.proofs.LawLemmas.{finds_all}
 
 -- a line of a kind, with these numbers
-pub known_by : (line : List ℕ) (k : LineKind) (ns : List ℕ) (known : Option KnownLine) → line_by_path line ≡ None → form line ≡ form_of k → numbers line ≡ ns → are_small ns ≡ true → line_of k ns ≡ known → known_line line ≡ known
+pub known_by : (line : List ℕ) (k : LineKind) (ns : List ℕ) (known : Option KnownLine) → line_by_path line ≡ None → line_by_times line ≡ None → form line ≡ form_of k → numbers line ≡ ns → are_small ns ≡ true → line_of k ns ≡ known → known_line line ≡ known
 unfolding known_line
-known_by line k ns known other form_is numbers_are small said = rw (other, numbers_are, small, form_is, finds_all.kinds k) said
+known_by line k ns known other timeless form_is numbers_are small said = rw (other, timeless, numbers_are, small, form_is, finds_all.kinds k) said
 
 -- ---- numbers that are small
 

@@ -31,6 +31,7 @@ use Rattle.cmd_explain.specs.Laws.{IsKnownAs, KnowsAll}
 use Rattle.cmd_explain.proofs.NumberLemmas.{form_number, form_last, numbers_number, numbers_last}
 use Rattle.cmd_explain.proofs.LawLemmas.{finds_all}
 use Rattle.cmd_explain.proofs.KnownLemmas.{known_by, inventory_small, journal_small, state_small, run_small, fault_small, reason_small, small_two, small_three, small_four}
+use Rattle.cmd_explain.proofs.TimesLemmas.{times_known}
 use Rattle.cmd_explain.proofs.FollowLemmas.{following_known, waits_known, replaced_known, anew_known, ended_known, clock_ahead_known, absent_known, new_inventory_known, told_missing_known}
 
 -- ---- lines without numbers
@@ -103,7 +104,7 @@ module _ (laws : Laws) (n cause : ℕ) (small : n ≤ GREATEST_NUMBER) (least : 
   inventory_read known said = (
     codes "gateway: inventory line " ++ tail,
     ap (λ (t : List ℕ). codes "gateway: inventory line " ++ t) ended_tail,
-    known_by _ kind.Inventory (n ∷ cause ∷ []) (Some known) refl (ap (λ (t : List ℕ). codes "gateway: inventory line " ++ t) form_of_tail) numbers_of_tail (small_two n cause small least) said,
+    known_by _ kind.Inventory (n ∷ cause ∷ []) (Some known) refl refl (ap (λ (t : List ℕ). codes "gateway: inventory line " ++ t) form_of_tail) numbers_of_tail (small_two n cause small least) said,
   )
 
   journal_read : (known : KnownLine) → line_of kind.Journal (n ∷ cause ∷ []) ≡ Some known → IsKnownAs (codes "gateway: journal line " ++ (decimal n ++ (codes ": " ++ (decimal cause ++ 10 ∷ [])))) known
@@ -111,7 +112,7 @@ module _ (laws : Laws) (n cause : ℕ) (small : n ≤ GREATEST_NUMBER) (least : 
   journal_read known said = (
     codes "gateway: journal line " ++ tail,
     ap (λ (t : List ℕ). codes "gateway: journal line " ++ t) ended_tail,
-    known_by _ kind.Journal (n ∷ cause ∷ []) (Some known) refl (ap (λ (t : List ℕ). codes "gateway: journal line " ++ t) form_of_tail) numbers_of_tail (small_two n cause small least) said,
+    known_by _ kind.Journal (n ∷ cause ∷ []) (Some known) refl refl (ap (λ (t : List ℕ). codes "gateway: journal line " ++ t) form_of_tail) numbers_of_tail (small_two n cause small least) said,
   )
 
   inventory_refused_read : (known : KnownLine) → line_of kind.InventoryRefused (n ∷ cause ∷ []) ≡ Some known → IsKnownAs (codes "gateway: inventory refused: line " ++ (decimal n ++ (codes ": " ++ (decimal cause ++ 10 ∷ [])))) known
@@ -119,7 +120,7 @@ module _ (laws : Laws) (n cause : ℕ) (small : n ≤ GREATEST_NUMBER) (least : 
   inventory_refused_read known said = (
     codes "gateway: inventory refused: line " ++ tail,
     ap (λ (t : List ℕ). codes "gateway: inventory refused: line " ++ t) ended_tail,
-    known_by _ kind.InventoryRefused (n ∷ cause ∷ []) (Some known) refl (ap (λ (t : List ℕ). codes "gateway: inventory refused: line " ++ t) form_of_tail) numbers_of_tail (small_two n cause small least) said,
+    known_by _ kind.InventoryRefused (n ∷ cause ∷ []) (Some known) refl refl (ap (λ (t : List ℕ). codes "gateway: inventory refused: line " ++ t) form_of_tail) numbers_of_tail (small_two n cause small least) said,
   )
 
   state_line_read : (known : KnownLine) → line_of kind.StateLine (n ∷ cause ∷ []) ≡ Some known → IsKnownAs (codes "gateway: state line " ++ (decimal n ++ (codes ": " ++ (decimal cause ++ 10 ∷ [])))) known
@@ -127,7 +128,7 @@ module _ (laws : Laws) (n cause : ℕ) (small : n ≤ GREATEST_NUMBER) (least : 
   state_line_read known said = (
     codes "gateway: state line " ++ tail,
     ap (λ (t : List ℕ). codes "gateway: state line " ++ t) ended_tail,
-    known_by _ kind.StateLine (n ∷ cause ∷ []) (Some known) refl (ap (λ (t : List ℕ). codes "gateway: state line " ++ t) form_of_tail) numbers_of_tail (small_two n cause small least) said,
+    known_by _ kind.StateLine (n ∷ cause ∷ []) (Some known) refl refl (ap (λ (t : List ℕ). codes "gateway: state line " ++ t) form_of_tail) numbers_of_tail (small_two n cause small least) said,
   )
 
   state_inventory_read : (known : KnownLine) → line_of kind.StateInventory (n ∷ cause ∷ []) ≡ Some known → IsKnownAs (codes "gateway: state inventory line " ++ (decimal n ++ (codes ": " ++ (decimal cause ++ 10 ∷ [])))) known
@@ -135,7 +136,7 @@ module _ (laws : Laws) (n cause : ℕ) (small : n ≤ GREATEST_NUMBER) (least : 
   state_inventory_read known said = (
     codes "gateway: state inventory line " ++ tail,
     ap (λ (t : List ℕ). codes "gateway: state inventory line " ++ t) ended_tail,
-    known_by _ kind.StateInventory (n ∷ cause ∷ []) (Some known) refl (ap (λ (t : List ℕ). codes "gateway: state inventory line " ++ t) form_of_tail) numbers_of_tail (small_two n cause small least) said,
+    known_by _ kind.StateInventory (n ∷ cause ∷ []) (Some known) refl refl (ap (λ (t : List ℕ). codes "gateway: state inventory line " ++ t) form_of_tail) numbers_of_tail (small_two n cause small least) said,
   )
 
   state_journal_read : (known : KnownLine) → line_of kind.StateJournal (n ∷ cause ∷ []) ≡ Some known → IsKnownAs (codes "gateway: state journal line " ++ (decimal n ++ (codes ": " ++ (decimal cause ++ 10 ∷ [])))) known
@@ -143,7 +144,7 @@ module _ (laws : Laws) (n cause : ℕ) (small : n ≤ GREATEST_NUMBER) (least : 
   state_journal_read known said = (
     codes "gateway: state journal line " ++ tail,
     ap (λ (t : List ℕ). codes "gateway: state journal line " ++ t) ended_tail,
-    known_by _ kind.StateJournal (n ∷ cause ∷ []) (Some known) refl (ap (λ (t : List ℕ). codes "gateway: state journal line " ++ t) form_of_tail) numbers_of_tail (small_two n cause small least) said,
+    known_by _ kind.StateJournal (n ∷ cause ∷ []) (Some known) refl refl (ap (λ (t : List ℕ). codes "gateway: state journal line " ++ t) form_of_tail) numbers_of_tail (small_two n cause small least) said,
   )
 
 -- ---- a run
@@ -154,7 +155,7 @@ module _ (laws : Laws) (cause feed : ℕ) (small : cause ≤ GREATEST_NUMBER) (l
   fault_read known said = (
     codes "gateway: fault " ++ (decimal cause ++ (codes " " ++ decimal feed)),
     ap (λ (t : List ℕ). codes "gateway: fault " ++ t) (sym (append_assoc (decimal cause) (codes " " ++ decimal feed) (10 ∷ []))),
-    known_by _ kind.Fault (cause ∷ feed ∷ []) (Some known) refl
+    known_by _ kind.Fault (cause ∷ feed ∷ []) (Some known) refl refl
         (ap (λ (t : List ℕ). codes "gateway: fault " ++ t) (form_number laws cause _ small ∙ ap (λ (t : List ℕ). codes "0 " ++ t) (form_last laws feed low)))
         (numbers_number laws cause _ small ∙ ap (λ (t : List ℕ). cause ∷ t) (numbers_last laws feed low))
         (small_two cause feed small low) said,
@@ -165,7 +166,7 @@ module _ (laws : Laws) (cause feed : ℕ) (small : cause ≤ GREATEST_NUMBER) (l
   no_report_read known said = (
     codes "fault;" ++ (decimal cause ++ (codes ";" ++ (decimal feed ++ []))),
     refl,
-    known_by _ kind.NoReport (cause ∷ feed ∷ []) (Some known) refl
+    known_by _ kind.NoReport (cause ∷ feed ∷ []) (Some known) refl refl
         (ap (λ (t : List ℕ). codes "fault;" ++ t) (form_number laws cause _ small ∙ ap (λ (t : List ℕ). codes "0;" ++ t) (form_number laws feed [] low)))
         (numbers_number laws cause _ small ∙ ap (λ (t : List ℕ). cause ∷ t) (numbers_number laws feed [] low))
         (small_two cause feed small low) said,
@@ -188,7 +189,7 @@ module _ (laws : Laws) (a b : ℕ) (h : a ≤ GREATEST_NUMBER) (k : b ≤ GREATE
   feed_read e form_is numbers_are = (
     codes "feed;" ++ (decimal a ++ (codes ";" ++ (decimal b ++ (codes ";" ++ (ending_text e ++ []))))),
     refl,
-    known_by _ (kind.Feed e) (a ∷ b ∷ []) (Some (Feed a b e)) refl
+    known_by _ (kind.Feed e) (a ∷ b ∷ []) (Some (Feed a b e)) refl refl
         (ap (λ (t : List ℕ). codes "feed;" ++ t) (form_of_two (codes ";" ++ (ending_text e ++ [])) ∙ ap (λ (t : List ℕ). codes "0;0" ++ t) form_is))
         (numbers_of_two (codes ";" ++ (ending_text e ++ [])) ∙ ap (λ (t : List ℕ). a ∷ t) numbers_are)
         (small_two a b h k) refl,
@@ -207,7 +208,7 @@ module _ (laws : Laws) (a b : ℕ) (h : a ≤ GREATEST_NUMBER) (k : b ≤ GREATE
   rejected_known r = (
     codes "rejected;" ++ (decimal a ++ (codes ";" ++ (decimal b ++ (codes ";" ++ (decimal (reason_number r) ++ []))))),
     refl,
-    known_by _ kind.Rejected (a ∷ b ∷ reason_number r ∷ []) (Some (Rejected a b r)) refl
+    known_by _ kind.Rejected (a ∷ b ∷ reason_number r ∷ []) (Some (Rejected a b r)) refl refl
         (ap (λ (t : List ℕ). codes "rejected;" ++ t) (form_of_two (codes ";" ++ (decimal (reason_number r) ++ [])) ∙ ap (λ (t : List ℕ). codes "0;0;" ++ t) (form_number laws (reason_number r) [] (reason_small r))))
         (numbers_of_two (codes ";" ++ (decimal (reason_number r) ++ [])) ∙ ap (λ (t : List ℕ). a ∷ b ∷ t) (numbers_number laws (reason_number r) [] (reason_small r)))
         (small_three a b (reason_number r) h k (reason_small r))
@@ -221,7 +222,7 @@ refused_known laws feed n f h k low =
     let rest = decimal (fault_number f) ++ (codes ";" ++ (decimal (fault_argument f) ++ [])) in (
       codes "refused;" ++ (decimal feed ++ (codes ";" ++ (decimal n ++ (codes ";" ++ rest)))),
       refl,
-      known_by _ kind.Refused (feed ∷ n ∷ fault_number f ∷ fault_argument f ∷ []) (Some (Refused feed n f)) refl
+      known_by _ kind.Refused (feed ∷ n ∷ fault_number f ∷ fault_argument f ∷ []) (Some (Refused feed n f)) refl refl
           (ap (λ (t : List ℕ). codes "refused;" ++ t) (form_of_two laws feed n h k (codes ";" ++ rest) ∙ ap (λ (t : List ℕ). codes "0;0;" ++ t) (form_of_two laws (fault_number f) (fault_argument f) (fault_small f) small [])))
           (numbers_of_two laws feed n h k (codes ";" ++ rest) ∙ ap (λ (t : List ℕ). feed ∷ n ∷ t) (numbers_of_two laws (fault_number f) (fault_argument f) (fault_small f) small []))
           (small_four feed n (fault_number f) (fault_argument f) h k (fault_small f) small)
@@ -259,4 +260,5 @@ knows_all laws = record {
   rejected = λ r small less. rejected_known laws r.sender r.place small less r.reason;
   no_report = λ c low. no_report_read laws (of_run.cause_number c) (of_run.cause_sender c) (run_small c) (omega arith) (Fault c) (ap (option_map Fault) (finds_all.runs c low));
   feed = λ k accepted e small less. feed_known laws k accepted small less e;
+  times = times_known laws;
 }

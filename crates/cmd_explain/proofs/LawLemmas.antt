@@ -18,7 +18,9 @@ use Rattle.cmd_answer.specs.declared.state_stop.StateWord.{StateWord}
 use Rattle.cmd_answer.specs.declared.state_stop.StateWord.TheVariants as word
 use Rattle.mon_engine.specs.declared.outcome.Reason.{Reason}
 use Rattle.mon_engine.specs.declared.outcome.Reason.TheVariants as reason
-use Rattle.mon_engine.specs.Words.{reason_number}
+use Rattle.mon_engine.specs.declared.withheld.Withheld.{Withheld}
+use Rattle.mon_engine.specs.declared.withheld.Withheld.TheVariants as by
+use Rattle.mon_engine.specs.Words.{reason_number, withheld_text}
 use Rattle.mon_inventory.specs.declared.fault.Cause.{Cause}
 use Rattle.mon_inventory.specs.declared.fault.Cause.TheVariants as inventory
 use Rattle.mon_inventory.specs.Cause as of_inventory
@@ -29,6 +31,7 @@ use Rattle.cmd_explain.specs.declared.kinds.LineKind.TheVariants as kind
 use Rattle.cmd_explain.specs.declared.known.KnownLine.{KnownLine}
 use Rattle.mon_state.specs.Causes as of_state
 use Rattle.cmd_explain.specs.Codes.{inventory_cause, journal_cause, state_cause, reason_of, cause_of_feed, run_cause, fault_of_argument, line_fault}
+use Rattle.cmd_explain.specs.Times.{withheld_of}
 use Rattle.cmd_explain.specs.KnownLines.{form_of, kind_of}
 use Rattle.cmd_explain.specs.Explained.{known_by_line, meaning_lines, shown_lines, taken_away}
 use Rattle.cmd_explain.specs.Laws.{FindsAll}
@@ -112,6 +115,24 @@ fault_found : (f : LineFault) → fault_argument f < 256 → line_fault (fault_n
 unfolding line_fault
 fault_found f low = rw (lt-ltb (fault_argument f) 256 low) (argument_found f)
 
+-- ---- what withholds a notice, by its word
+
+withheld_found : (w : Option Withheld) → withheld_of (withheld_text w) ≡ Some w
+unfolding withheld_of
+withheld_found None = refl
+withheld_found (Some by.Program) = refl
+withheld_found (Some by.Switch) = refl
+withheld_found (Some by.Downtime) = refl
+withheld_found (Some by.Host) = refl
+withheld_found (Some by.Letter) = refl
+withheld_found (Some by.Acknowledged) = refl
+withheld_found (Some by.Soft) = refl
+withheld_found (Some by.NotBefore) = refl
+withheld_found (Some by.Interval) = refl
+withheld_found (Some by.Delay) = refl
+withheld_found (Some by.Settle) = refl
+withheld_found (Some by.Nobody) = refl
+
 -- ---- kinds of lines by their forms
 
 state_kind : (w : StateWord) → kind_of (form_of (kind.State w)) ≡ Some (kind.State w)
@@ -176,7 +197,7 @@ kind_found kind.NoReport = refl
 kind_found (kind.Feed e) = feed_kind e
 
 pub finds_all : FindsAll
-finds_all = record { inventory = inventory_found; journal = journal_found; state = state_found; reasons = reason_found; runs = run_found; faults = fault_found; kinds = kind_found }
+finds_all = record { inventory = inventory_found; journal = journal_found; state = state_found; reasons = reason_found; runs = run_found; faults = fault_found; withheld = withheld_found; kinds = kind_found }
 
 -- ---- without the meanings
 

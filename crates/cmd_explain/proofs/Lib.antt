@@ -7,5 +7,6 @@ pub mod NumberLemmas
 pub mod PathLemmas
 pub mod KnownLemmas
 pub mod FollowLemmas
+pub mod TimesLemmas
 pub mod KnownLineLemmas
 pub mod OutputLemmas

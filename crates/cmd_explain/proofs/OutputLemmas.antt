@@ -17,13 +17,15 @@ use Rattle.cmd_answer.specs.declared.state_stop.StateWord.{StateWord}
 use Rattle.cmd_answer.specs.declared.state_stop.StateWord.TheVariants as word
 use Rattle.mon_engine.specs.declared.outcome.Reason.{Reason}
 use Rattle.mon_engine.specs.declared.outcome.Reason.TheVariants as reason
+use Rattle.mon_engine.specs.declared.withheld.Withheld.{Withheld}
+use Rattle.mon_engine.specs.declared.withheld.Withheld.TheVariants as by
 use Rattle.mon_inventory.specs.declared.fault.Cause.{Cause}
 use Rattle.mon_inventory.specs.declared.fault.Cause.TheVariants as inventory
 use Rattle.mon_state.specs.declared.fault.StateCause.{StateCause}
 use Rattle.mon_state.specs.declared.fault.StateCause.TheVariants as state
 use Rattle.cmd_explain.specs.declared.known.KnownLine.{KnownLine}
-use Rattle.cmd_explain.specs.declared.known.KnownLine.TheVariants.{Usage, Input, Feeds, FeedTwice, Memory, Output, Open, Inventory, Journal, Fault, State, StateLine, StateInventory, StateJournal, Following, Waits, Replaced, Anew, Ended, ClockAhead, Absent, NewInventory, InventoryRefused, ToldMissing, Refused, Rejected, Feed}
-use Rattle.cmd_explain.specs.Words.{inventory_words, journal_words, state_line_words, state_words, absence_words, run_words, ending_words, fault_words, reason_words}
+use Rattle.cmd_explain.specs.declared.known.KnownLine.TheVariants.{Usage, Input, Feeds, FeedTwice, Memory, Output, Open, Inventory, Journal, Fault, State, StateLine, StateInventory, StateJournal, Following, Waits, Replaced, Anew, Ended, ClockAhead, Absent, NewInventory, InventoryRefused, ToldMissing, Refused, Rejected, Feed, Times}
+use Rattle.cmd_explain.specs.Words.{inventory_words, journal_words, state_line_words, state_words, absence_words, run_words, ending_words, fault_words, reason_words, withheld_words}
 use Rattle.cmd_explain.specs.Meanings.{pieces_of, together, meaning}
 use Rattle.cmd_explain.specs.Explained.{known_by_line, whole_lines, lines_of, meaning_lines, shown_lines, ended, taken_away}
 use Rattle.cmd_explain.specs.Laws.{LosesNothing}
@@ -130,6 +132,20 @@ reason_words_none reason.NoTrigger = refl
 reason_words_none reason.TriggerOver = refl
 reason_words_none reason.PassiveOff = refl
 
+withheld_words_none : (x : Withheld) → has_none (withheld_words x) ≡ true
+withheld_words_none by.Program = refl
+withheld_words_none by.Switch = refl
+withheld_words_none by.Downtime = refl
+withheld_words_none by.Host = refl
+withheld_words_none by.Letter = refl
+withheld_words_none by.Acknowledged = refl
+withheld_words_none by.Soft = refl
+withheld_words_none by.NotBefore = refl
+withheld_words_none by.Interval = refl
+withheld_words_none by.Delay = refl
+withheld_words_none by.Settle = refl
+withheld_words_none by.Nobody = refl
+
 module _ (laws : Laws) where
   words : (xs : List ℕ) → has_none xs ≡ true → IsOneLine xs
   words xs h = record { lacks = laws.lacking.tested 10 xs h }
@@ -183,6 +199,8 @@ module _ (laws : Laws) where
   pieces_lack (Refused a b f) = (words _ refl, (number_lacks b, (words _ refl, (number_lacks a, (words _ refl, fault_lack f)))))
   pieces_lack (Rejected a b r) = (words _ refl, (number_lacks b, (words _ refl, (number_lacks a, (words _ refl, (words _ (reason_words_none r), tt))))))
   pieces_lack (Feed a b e) = (words _ refl, (number_lacks a, (words _ refl, (number_lacks b, (words _ refl, (words _ (ending_words_none e), tt))))))
+  pieces_lack (Times None) = (words _ refl, tt)
+  pieces_lack (Times (Some w)) = (words _ refl, (words _ (withheld_words_none w), tt))
 
   together_lacks : (pieces : List (List ℕ)) → LackAll pieces → Lacks 10 (together pieces)
   together_lacks [] h = tt

@@ -1,13 +1,14 @@
 -- The explained text: each line of a text, and after each line that is known its meaning.
-use Rattle.std.specs.Prelude.{ℕ, ◌==◌, ◌&&◌, Bool, true, false, if◌then◌else◌, nat_eq, List, [], ◌∷◌, ◌++◌, length, Option, Some, None, is_some, codes}
+use Rattle.std.specs.Prelude.{ℕ, ◌==◌, ◌&&◌, Bool, true, false, if◌then◌else◌, nat_eq, List, [], ◌∷◌, ◌++◌, length, Option, Some, None, option_map, is_some, codes}
 use Rattle.std.specs.List.{flat_map, list_all, starts_with, ends_with}
 use Rattle.std.specs.Option.{option_and_then, option_or}
 use Rattle.cmd_types.specs.Bytes.{without_returns}
 use Rattle.cmd_types.specs.TextLines.{split_lines}
 use Rattle.cmd_explain.specs.declared.known.KnownLine.{KnownLine}
-use Rattle.cmd_explain.specs.declared.known.KnownLine.TheVariants.{Open, Absent}
+use Rattle.cmd_explain.specs.declared.known.KnownLine.TheVariants.{Open, Absent, Times}
 use Rattle.cmd_explain.specs.Parts.{form, numbers, are_small}
 use Rattle.cmd_explain.specs.KnownLines.{kind_of, line_of}
+use Rattle.cmd_explain.specs.Times.{times_of}
 use Rattle.cmd_explain.specs.Meanings.{meaning}
 
 -- ---- a line
@@ -27,13 +28,17 @@ line_by_path line =
     if names_feed line (codes ": not there") then Some (Absent false) else
     if names_feed line (codes ": not opened") then Some (Absent true) else None
 
+-- what a line of the status on the moments of an object says
+abbrev pub line_by_times : (line : List ℕ) → Option KnownLine
+line_by_times line = option_map Times (times_of line)
+
 -- what a line says by its form and its numbers
 abbrev pub known_by_form : (line : List ℕ) → Option KnownLine
 known_by_form line = if are_small (numbers line) then option_and_then (λ kind. line_of kind (numbers line)) (kind_of (form line)) else None
 
 -- what a line that the program prints says; none for any other line
 unfoldable pub known_line : (line : List ℕ) → Option KnownLine
-known_line line = option_or (line_by_path line) (known_by_form line)
+known_line line = option_or (line_by_path line) (option_or (line_by_times line) (known_by_form line))
 
 -- what a line of a text says; carriage returns at its end do not count
 abbrev pub known_by_line : (line : List ℕ) → Option KnownLine

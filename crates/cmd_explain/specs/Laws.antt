@@ -1,5 +1,5 @@
 -- The laws that every line that the program prints is known, and that explaining loses nothing.
-use Rattle.std.specs.Prelude.{◌≡◌, ◌<◌, ◌≤◌, ℕ, false, List, [], ◌∷◌, ◌++◌, Some, codes}
+use Rattle.std.specs.Prelude.{◌≡◌, ◌<◌, ◌≤◌, ℕ, false, List, [], ◌∷◌, ◌++◌, Option, Some, IfSome, slice_get, codes}
 use Rattle.cmd_types.specs.declared.entry.TheConstants.{MOST_SENDERS}
 use Rattle.cmd_types.specs.declared.limits.TheConstants.{GREATEST_NUMBER}
 use Rattle.cmd_lines.specs.declared.fault.LineFault.{LineFault}
@@ -10,8 +10,15 @@ use Rattle.cmd_run.specs.declared.fault.RunCause.{RunCause}
 use Rattle.cmd_run.specs.Causes as of_run
 use Rattle.mon_engine.specs.declared.outcome.Reason.{Reason}
 use Rattle.mon_engine.specs.declared.outcome.Rejection.{Rejection}
+use Rattle.mon_engine.specs.declared.object.Object.{Object}
+use Rattle.mon_engine.specs.declared.withheld.Withheld.{Withheld}
 use Rattle.mon_engine.specs.Report.{rejected_line}
-use Rattle.mon_engine.specs.Words.{reason_number}
+use Rattle.mon_engine.specs.Saved.{AreMoments}
+use Rattle.mon_engine.specs.Status.{withheld_now, times_line}
+use Rattle.mon_engine.specs.Words.{reason_number, withheld_text}
+use Rattle.mon_engine.specs.World.{World}
+use Rattle.mon_inventory.specs.declared.records.ObjectSpec.{ObjectSpec}
+use Rattle.mon_inventory.specs.Configuration.{Configuration}
 use Rattle.mon_inventory.specs.declared.fault.Cause.{Cause}
 use Rattle.mon_inventory.specs.Cause as of_inventory
 use Rattle.mon_state.specs.declared.fault.StateCause.{StateCause}
@@ -27,13 +34,15 @@ use Rattle.cmd_answer.specs.Stops.{stop_line}
 use Rattle.cmd_answer.specs.StateStops.{state_line, state_stop_line}
 use Rattle.cmd_explain.specs.declared.kinds.LineKind.{LineKind}
 use Rattle.cmd_explain.specs.declared.known.KnownLine.{KnownLine}
-use Rattle.cmd_explain.specs.declared.known.KnownLine.TheVariants.{Usage, Input, Feeds, FeedTwice, Memory, Output, Open, Inventory, Journal, Fault, State, StateLine, StateInventory, StateJournal, Following, Waits, Replaced, Anew, Ended, ClockAhead, Absent, NewInventory, InventoryRefused, ToldMissing, Refused, Rejected, Feed}
+use Rattle.cmd_explain.specs.declared.known.KnownLine.TheVariants.{Usage, Input, Feeds, FeedTwice, Memory, Output, Open, Inventory, Journal, Fault, State, StateLine, StateInventory, StateJournal, Following, Waits, Replaced, Anew, Ended, ClockAhead, Absent, NewInventory, InventoryRefused, ToldMissing, Refused, Rejected, Feed, Times}
 use Rattle.mon_state.specs.Causes as of_state
 use Rattle.cmd_explain.specs.Codes.{inventory_cause, journal_cause, state_cause, reason_of, run_cause, line_fault}
 use Rattle.cmd_explain.specs.KnownLines.{form_of, kind_of}
+use Rattle.cmd_explain.specs.Times.{withheld_of}
 use Rattle.cmd_explain.specs.Explained.{known_line, lines_of, explained, taken_away}
 
--- each cause, fault and reason is found by its number, and each kind of line by its form
+-- each cause, fault and reason is found by its number, all that can withhold a notice by its word, and each kind of line
+-- by its form
 pub record FindsAll : Type 0 where
   pub inventory : (c : Cause) → inventory_cause (of_inventory.cause_number c) ≡ Some c
   pub journal : (c : ReadCause) → journal_cause (of_journal.cause_number c) ≡ Some c
@@ -41,6 +50,7 @@ pub record FindsAll : Type 0 where
   pub reasons : (r : Reason) → reason_of (reason_number r) ≡ Some r
   pub runs : (c : RunCause) → of_run.cause_sender c < MOST_SENDERS → run_cause (of_run.cause_number c) (of_run.cause_sender c) ≡ Some c
   pub faults : (f : LineFault) → fault_argument f < 256 → line_fault (fault_number f) (fault_argument f) ≡ Some f
+  pub withheld : (w : Option Withheld) → withheld_of (withheld_text w) ≡ Some w
   pub kinds : (k : LineKind) → kind_of (form_of k) ≡ Some k
 
 -- the text is one line with its line feed, which is known and says this
@@ -48,8 +58,9 @@ abbrev pub IsKnownAs : (text : List ℕ) → KnownLine → Type 0
 IsKnownAs text known = (line : List ℕ) × (text ≡ line ++ 10 ∷ []) × (known_line line ≡ Some known)
 
 -- Each line that the program prints on its end, a run, a feed, a refused line and a rejected command is known, and so
--- is each line of a run that follows feeds. The line says for which event it was printed. The numbers in it are at most
--- the greatest number that a command may have
+-- is each line of a run that follows feeds. The line says for which event it was printed. The line of the status on the
+-- moments of an object says what withholds the notice of its problem. The numbers in a line are at most the greatest
+-- number that a command may have
 pub record KnowsAll : Type 0 where
   pub usage : IsKnownAs (stop_line stop.Usage) Usage
   pub input : IsKnownAs (stop_line stop.Input) Input
@@ -79,6 +90,7 @@ pub record KnowsAll : Type 0 where
   pub rejected : (r : Rejection) → r.sender ≤ GREATEST_NUMBER → r.place ≤ GREATEST_NUMBER → IsKnownAs (rejected_line r) (Rejected r.sender r.place r.reason)
   pub no_report : (c : RunCause) → of_run.cause_sender c < MOST_SENDERS → IsKnownAs (fault_line (of_run.cause_number c) (of_run.cause_sender c)) (Fault c)
   pub feed : (k accepted : ℕ) (e : Ending) → k ≤ GREATEST_NUMBER → accepted ≤ GREATEST_NUMBER → IsKnownAs (feed_line k accepted e) (Feed k accepted e)
+  pub times : (inv : Configuration) (w : World) (object : ℕ) (spec : ObjectSpec) (o : Object) → slice_get inv.objects object ≡ Some spec → slice_get w.objects object ≡ Some o → AreMoments o.moments → IfSome o.last (λ moment. moment ≤ GREATEST_NUMBER) → IsKnownAs (times_line inv w object) (Times (withheld_now inv w object o))
 
 -- an explained text without its meanings has exactly the lines of the text, in their order
 abbrev pub LosesNothing : Type 0

@@ -1,11 +1,11 @@
 -- The meaning of a line in words.
-use Rattle.std.specs.Prelude.{ℕ, List, [], ◌∷◌, ◌++◌, codes}
+use Rattle.std.specs.Prelude.{ℕ, List, [], ◌∷◌, ◌++◌, Some, None, codes}
 use Rattle.std.specs.Fmt.{decimal}
 use Rattle.cmd_explain.specs.declared.known.KnownLine.{KnownLine}
-use Rattle.cmd_explain.specs.declared.known.KnownLine.TheVariants.{Usage, Input, Feeds, FeedTwice, Memory, Output, Open, Inventory, Journal, Fault, State, StateLine, StateInventory, StateJournal, Following, Waits, Replaced, Anew, Ended, ClockAhead, Absent, NewInventory, InventoryRefused, ToldMissing, Refused, Rejected, Feed}
+use Rattle.cmd_explain.specs.declared.known.KnownLine.TheVariants.{Usage, Input, Feeds, FeedTwice, Memory, Output, Open, Inventory, Journal, Fault, State, StateLine, StateInventory, StateJournal, Following, Waits, Replaced, Anew, Ended, ClockAhead, Absent, NewInventory, InventoryRefused, ToldMissing, Refused, Rejected, Feed, Times}
 use Rattle.cmd_explain.specs.declared.pieces.Piece.{Piece}
 use Rattle.cmd_explain.specs.declared.pieces.Piece.TheVariants as code
-use Rattle.cmd_explain.specs.Words.{inventory_words, journal_words, state_line_words, state_words, run_words, absence_words, ending_words, fault_words, reason_words}
+use Rattle.cmd_explain.specs.Words.{inventory_words, journal_words, state_line_words, state_words, run_words, absence_words, ending_words, fault_words, reason_words, withheld_words}
 
 -- the meaning of a line, in pieces
 abbrev pub pieces_of : KnownLine → List (List ℕ)
@@ -38,6 +38,8 @@ pieces_of (ToldMissing segment line) = codes "line " ∷ decimal line ∷ codes 
 pieces_of (Refused feed line fault) = codes "line " ∷ decimal line ∷ codes " of feed " ∷ decimal feed ∷ codes " is no command: " ∷ fault_words fault
 pieces_of (Rejected feed place reason) = codes "command " ∷ decimal place ∷ codes " of feed " ∷ decimal feed ∷ codes " had no effect: " ∷ reason_words reason ∷ []
 pieces_of (Feed feed accepted ending) = codes "commands that feed " ∷ decimal feed ∷ codes " gave: " ∷ decimal accepted ∷ codes "; " ∷ ending_words ending ∷ []
+pieces_of (Times None) = codes "nothing withholds a notice of the object now" ∷ []
+pieces_of (Times (Some withheld)) = codes "nobody is notified of the problem now: " ∷ withheld_words withheld ∷ []
 
 -- the text of these pieces, one after another
 abbrev pub together : List (List ℕ) → List ℕ

@@ -1,4 +1,4 @@
--- The words for causes, faults and reasons.
+-- The words for causes, faults, reasons and what withholds a notice.
 use Rattle.std.specs.Prelude.{ℕ, Bool, true, false, List, [], ◌∷◌, codes}
 use Rattle.std.specs.Fmt.{decimal}
 use Rattle.mon_inventory.specs.declared.fault.Cause.{Cause}
@@ -15,12 +15,14 @@ use Rattle.cmd_run.specs.declared.fault.RunCause.{RunCause}
 use Rattle.cmd_run.specs.declared.fault.RunCause.TheVariants as run
 use Rattle.mon_engine.specs.declared.outcome.Reason.{Reason}
 use Rattle.mon_engine.specs.declared.outcome.Reason.TheVariants as reason
+use Rattle.mon_engine.specs.declared.withheld.Withheld.{Withheld}
+use Rattle.mon_engine.specs.declared.withheld.Withheld.TheVariants as by
 use Rattle.cmd_lines.specs.declared.fault.LineFault.{LineFault}
 use Rattle.cmd_lines.specs.declared.fault.LineFault.TheVariants as fault
 
 -- the cause of a fault in a line of an inventory; the words follow those for the line
 abbrev pub inventory_words : Cause → List ℕ
-inventory_words inventory.BadForm = codes " has none of the forms contact;NAME;HOSTOPTS;SVCOPTS, host;NAME;MAX;INTERVAL;OPTS;CONTACTS, service;HOST;DESC;MAX;INTERVAL;OPTS;CONTACTS, escalation;HOST;DESC or empty;FIRST;LAST;INTERVAL;OPTS;CONTACTS, option;NAME;VALUE, settle;SECONDS, delay;HOST;DESC or empty;SECONDS and volatile;HOST;DESC (look at the first word and the number of fields; an option's NAME is passive_host_checks_are_soft or tell_by_clock), or an empty name, an empty item in a list or a comma in a contact's name"
+inventory_words inventory.BadForm = codes " has none of the forms contact;NAME;HOSTOPTS;SVCOPTS, host;NAME;MAX;INTERVAL;OPTS;CONTACTS, service;HOST;DESC;MAX;INTERVAL;OPTS;CONTACTS, escalation;HOST;DESC or empty;FIRST;LAST;INTERVAL;OPTS;CONTACTS, option;NAME;VALUE, settle;SECONDS, delay;HOST;DESC or empty;SECONDS and volatile;HOST;DESC (look at the first word and the number of fields; an option's NAME is passive_host_checks_are_soft, tell_by_clock or recover_the_told), or an empty name, an empty item in a list or a comma in a contact's name"
 inventory_words inventory.BadNumber = codes " has a field that is no number, or none that may stand there"
 inventory_words inventory.BadOption = codes " has a letter that this kind of line does not allow"
 inventory_words inventory.Duplicate = codes " defines again what a line before it defines"
@@ -89,6 +91,21 @@ reason_words reason.NoDuration = codes "the downtime is flexible and lasts 0 sec
 reason_words reason.NoTrigger = codes "the downtime's trigger was never scheduled"
 reason_words reason.TriggerOver = codes "the downtime's trigger is over"
 reason_words reason.PassiveOff = codes "passive results are switched off, for the program or for the object"
+
+-- what withholds the notice of a problem; the words follow those for the problem
+abbrev pub withheld_words : Withheld → List ℕ
+withheld_words by.Program = codes "notifications are off"
+withheld_words by.Switch = codes "its notifications are off"
+withheld_words by.Downtime = codes "it or its host is in a downtime"
+withheld_words by.Host = codes "its host is not UP"
+withheld_words by.Letter = codes "its options lack the letter of its state"
+withheld_words by.Acknowledged = codes "it is acknowledged"
+withheld_words by.Soft = codes "its state is soft"
+withheld_words by.NotBefore = codes "the time of a DELAY has not come"
+withheld_words by.Interval = codes "this state was notified, and the interval is 0 or not over"
+withheld_words by.Delay = codes "its first notification delay is not over"
+withheld_words by.Settle = codes "its host came back too short a time ago for a first notice"
+withheld_words by.Nobody = codes "no contact may get the notice"
 
 -- why a run failed, in pieces
 abbrev pub run_words : RunCause → List (List ℕ)

@@ -7,6 +7,7 @@ use crate::kinds::kind_of;
 use crate::known::{KnownLine, line_of};
 use crate::meaning::put_meaning;
 use crate::parts::parts_of;
+use crate::times::times_of;
 use cmd_types::{Memory, TextLines, without_returns};
 use std::alloc::Global;
 
@@ -45,6 +46,9 @@ pub fn known_line(alloc: Global, line: &[u8]) -> Result<Option<KnownLine>, Memor
 {
     if let Some(known) = line_by_path(line) {
         return Ok(Some(known));
+    }
+    if let Some(withheld) = times_of(line) {
+        return Ok(Some(KnownLine::Times { withheld }));
     }
     let Some(parts) = parts_of(alloc, line)? else {
         return Ok(None);

@@ -8,7 +8,7 @@ use cmd_answer::StateWord;
 use cmd_journal::ReadCause;
 use cmd_lines::LineFault;
 use cmd_run::{Ending, RunCause};
-use mon_engine::Reason;
+use mon_engine::{Reason, Withheld};
 use mon_inventory::Cause;
 use mon_state::StateCause;
 
@@ -137,6 +137,10 @@ pub enum KnownLine {
         feed: u64,
         accepted: u64,
         ending: Ending,
+    },
+    /// A line of the status: the moments of an object, and what withholds the notice of its problem.
+    Times {
+        withheld: Option<Withheld>,
     },
 }
 

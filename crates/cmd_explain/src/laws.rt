@@ -4,10 +4,11 @@ ghost use Rattle.cmd_explain.specs.Laws.{FindsAll, KnowsAll, LosesNothing};
 
 use cmd_types::definitions_agree;
 
-/// Every cause, fault and reason is found by the number that the program prints for it, and every kind of line by its
-/// form (profile). So the lines for the program's end, a run, a feed, a refused line and a rejected command are known.
-/// So are the lines of a run that follows feeds, on its start, on its feeds and on a new inventory. Their meaning is
-/// that of the event for which they were printed.
+/// Every cause, fault and reason is found by the number that the program prints for it, all that can withhold a notice
+/// by its word, and every kind of line by its form (profile). So the lines for the program's end, a run, a feed, a
+/// refused line and a rejected command are known. So are the lines of a run that follows feeds, on its start, on its
+/// feeds and on a new inventory. Their meaning is that of the event for which they were printed. The line of a status on
+/// the moments of an object is known too, with what withholds the notice of its problem.
 pub fn every_line_is_known()
     ensures found { FindsAll }
     ensures known { KnowsAll }

@@ -1,7 +1,8 @@
 //! Explains the lines that the program prints: after each known line comes a line with its meaning. A line is known
 //! where the program prints lines of its form, which is the line with each number written as 0 (`kinds`). A line that
-//! names a file is known by the words around the path. The kind and the numbers of a line give what it says (`known`).
-//! Tables turn the numbers into causes (`codes`), and causes into words (`words`).
+//! names a file is known by the words around the path, and the line of the status on the moments of an object by its
+//! first and its last word (`times`). The kind and the numbers of a line give what it says (`known`). Tables turn the
+//! numbers into causes (`codes`), and causes into words (`words`).
 #![tactic(auto)]
 
 mod codes;
@@ -15,6 +16,7 @@ mod pieces;
 mod serving;
 mod showing;
 mod stopping;
+mod times;
 mod words;
 
 pub use explaining::{explain, known_line};

@@ -10,11 +10,12 @@ use crate::pieces::Piece::{Number, Words};
 use crate::pieces::put_pieces;
 use crate::words::{
     absence_words, ending_words, inventory_words, journal_words, reason_words, state_line_words,
-    state_words,
+    state_words, withheld_words,
 };
 use cmd_lines::LineFault;
 use cmd_run::RunCause;
 use cmd_types::Memory;
+use mon_engine::Withheld;
 
 const USAGE: &[u8] =
     b"the words ask for nothing that the program does, or a value is out of its range";
@@ -275,6 +276,25 @@ fn put_feed(out: &mut Vec<u8>, feed: u64, accepted: u64, words: &[u8]) -> Result
     )
 }
 
+/// Appends the sentence on what withholds the notice of an object's problem; `None` where nothing does.
+fn put_withheld(out: &mut Vec<u8>, withheld: Option<Withheld>) -> Result<(), Memory>
+    ensures { OnOk result (out.new.items ≡ out.old.items ++ meaning (KnownLine.Times withheld)) }
+{
+    match withheld {
+        None => put_pieces(
+            out,
+            &[Words(b"nothing withholds a notice of the object now")],
+        ),
+        Some(withheld) => put_pieces(
+            out,
+            &[
+                Words(b"nobody is notified of the problem now: "),
+                Words(withheld_words(withheld)),
+            ],
+        ),
+    }
+}
+
 /// Appends the sentence on a run that failed by this cause.
 fn put_failure(out: &mut Vec<u8>, cause: RunCause) -> Result<(), Memory>
     ensures { OnOk result (out.new.items ≡ out.old.items ++ meaning (KnownLine.Fault cause)) }
@@ -358,5 +378,6 @@ pub fn put_meaning(out: &mut Vec<u8>, known: KnownLine) -> Result<(), Memory>
             accepted,
             ending,
         } => put_feed(out, feed, accepted, ending_words(ending)),
+        KnownLine::Times { withheld } => put_withheld(out, withheld),
     }
 }

@@ -1,12 +1,12 @@
-//! The words for causes, faults and reasons: this is the only table of them. The words are parts of the sentences of
-//! `meaning`.
+//! The words for causes, faults, reasons and what withholds a notice: this is the only table of them. The words are parts
+//! of the sentences of `meaning`.
 ghost use Rattle.std.specs.Prelude.{◌≡◌};
-ghost use Rattle.cmd_explain.specs.Words.{inventory_words, journal_words, state_line_words, state_words, absence_words, ending_words, reason_words};
+ghost use Rattle.cmd_explain.specs.Words.{inventory_words, journal_words, state_line_words, state_words, absence_words, ending_words, reason_words, withheld_words};
 
 use cmd_answer::StateWord;
 use cmd_journal::ReadCause;
 use cmd_run::Ending;
-use mon_engine::Reason;
+use mon_engine::{Reason, Withheld};
 use mon_inventory::Cause;
 use mon_state::StateCause;
 
@@ -16,7 +16,7 @@ pub fn inventory_words(cause: Cause) -> &'static [u8]
 {
     match cause {
         Cause::BadForm =>
-            b" has none of the forms contact;NAME;HOSTOPTS;SVCOPTS, host;NAME;MAX;INTERVAL;OPTS;CONTACTS, service;HOST;DESC;MAX;INTERVAL;OPTS;CONTACTS, escalation;HOST;DESC or empty;FIRST;LAST;INTERVAL;OPTS;CONTACTS, option;NAME;VALUE, settle;SECONDS, delay;HOST;DESC or empty;SECONDS and volatile;HOST;DESC (look at the first word and the number of fields; an option's NAME is passive_host_checks_are_soft or tell_by_clock), or an empty name, an empty item in a list or a comma in a contact's name",
+            b" has none of the forms contact;NAME;HOSTOPTS;SVCOPTS, host;NAME;MAX;INTERVAL;OPTS;CONTACTS, service;HOST;DESC;MAX;INTERVAL;OPTS;CONTACTS, escalation;HOST;DESC or empty;FIRST;LAST;INTERVAL;OPTS;CONTACTS, option;NAME;VALUE, settle;SECONDS, delay;HOST;DESC or empty;SECONDS and volatile;HOST;DESC (look at the first word and the number of fields; an option's NAME is passive_host_checks_are_soft, tell_by_clock or recover_the_told), or an empty name, an empty item in a list or a comma in a contact's name",
         Cause::BadNumber => b" has a field that is no number, or none that may stand there",
         Cause::BadOption => b" has a letter that this kind of line does not allow",
         Cause::Duplicate => b" defines again what a line before it defines",
@@ -123,5 +123,25 @@ pub fn reason_words(reason: Reason) -> &'static [u8]
         Reason::TriggerOver => b"the downtime's trigger is over",
         Reason::PassiveOff =>
             b"passive results are switched off, for the program or for the object",
+    }
+}
+
+/// The words for what withholds the notice of a problem. They follow the words for the problem.
+pub fn withheld_words(withheld: Withheld) -> &'static [u8]
+    ensures { result.now ≡ withheld_words withheld }
+{
+    match withheld {
+        Withheld::Program => b"notifications are off",
+        Withheld::Switch => b"its notifications are off",
+        Withheld::Downtime => b"it or its host is in a downtime",
+        Withheld::Host => b"its host is not UP",
+        Withheld::Letter => b"its options lack the letter of its state",
+        Withheld::Acknowledged => b"it is acknowledged",
+        Withheld::Soft => b"its state is soft",
+        Withheld::NotBefore => b"the time of a DELAY has not come",
+        Withheld::Interval => b"this state was notified, and the interval is 0 or not over",
+        Withheld::Delay => b"its first notification delay is not over",
+        Withheld::Settle => b"its host came back too short a time ago for a first notice",
+        Withheld::Nobody => b"no contact may get the notice",
     }
 }

@@ -5,7 +5,7 @@ use Rattle.std.specs.List.{range_with_len}
 use Rattle.cmd_types.specs.declared.entry.Entry.{Entry}
 use Rattle.cmd_journal.specs.Versions.{greatest_time}
 use Rattle.mon_inventory.specs.declared.records.ObjectSpec.{ObjectSpec}
-use Rattle.mon_inventory.specs.Configuration.{Configuration, tells_by_clock}
+use Rattle.mon_inventory.specs.Configuration.{Configuration, recovers_the_told, tells_by_clock}
 use Rattle.mon_engine.specs.declared.notice.Notice.{Notice}
 use Rattle.mon_engine.specs.declared.object.Object.{Object}
 use Rattle.mon_engine.specs.declared.outcome.Reason.{Reason}
@@ -21,7 +21,8 @@ use Rattle.mon_engine.specs.Downtimes.{with_records, after_cancel, told_cancelle
 use Rattle.mon_engine.specs.Effects as acts
 use Rattle.mon_engine.specs.Effects.{Act, act, named}
 use Rattle.mon_engine.specs.Clock.{advanced}
-use Rattle.mon_engine.specs.Step.{act_on, settled, counted, acted, step, meaning_from}
+use Rattle.mon_engine.specs.Ends.{is_end_due_of, is_news, owing, told_end, told_end_of, told_ends, told_ends_among, with_owed}
+use Rattle.mon_engine.specs.Step.{act_on, settled, counted, acted, step, stood, meaning_from}
 
 -- what is done leaves this clock
 abbrev Keeps : (clock : ℕ) → Result World Reason → Type 0
@@ -154,6 +155,27 @@ by_clock inv w = by_option (tells_by_clock inv)
     by_option true = each_told_clock inv w (range_with_len 0 (length inv.objects))
     by_option false = refl
 
+end_clock : (inv : Configuration) (w : World) (k : ℕ) → (told_end inv w k).clock ≡ w.clock
+unfolding told_end
+end_clock inv w k = by_object (slice_get inv.objects k) (slice_get w.objects k)
+  where
+    by_object : (s : Option ObjectSpec) (o : Option Object) → (of_object w (told_end_of inv w k) s o).clock ≡ w.clock
+    by_object None o = refl
+    by_object (Some spec) None = refl
+    by_object (Some spec) (Some o) = either_clock w.clock (is_end_due_of inv w k spec o) _ w (either_clock w.clock (is_news w.clock o) _ (with_owed w k []) refl refl) refl
+
+each_end_clock : (inv : Configuration) (w : World) (ks : List ℕ) → (fold (told_end inv) w ks).clock ≡ w.clock
+each_end_clock inv w [] = refl
+each_end_clock inv w (k ∷ ks) = each_end_clock inv (told_end inv w k) ks ∙ end_clock inv w k
+
+ends_clock : (inv : Configuration) (w : World) → (told_ends inv w).clock ≡ w.clock
+unfolding told_ends
+ends_clock inv w = either_clock w.clock (recovers_the_told inv) (told_ends_among inv w (length inv.objects)) w (each_end_clock inv w (range_with_len 0 (length inv.objects))) refl
+
+owing_clock : (inv : Configuration) (before : ℕ) (w : World) → (owing inv before w).clock ≡ w.clock
+unfolding owing
+owing_clock inv before w = either_clock w.clock (recovers_the_told inv) _ w refl refl
+
 step_clock : (inv : Configuration) (w : World) (e : Entry) → (step inv w e).0.clock ≡ max w.clock e.stamped.time
 unfolding step acted
 step_clock inv w e =
@@ -163,8 +185,11 @@ step_clock inv w e =
     let now : v.clock ≡ max w.clock t = advanced_clock inv w t in
     let same : done.clock ≡ v.clock = settled_clock v e.sender e.place (act_on inv v (named inv e.stamped.command)) (acted_clock inv v (named inv e.stamped.command)) in
     let later : (advanced inv (counted done) t).clock ≡ max done.clock t = advanced_clock inv (counted done) t in
-    let told = by_clock inv (advanced inv (counted done) t) in
-    omega (arith, now, same, later, told))
+    let u = advanced inv (counted done) t in
+    let ends = ends_clock inv u in
+    let told = by_clock inv (told_ends inv u) in
+    let owed = owing_clock inv (length w.notices) (stood inv u) in
+    omega (arith, now, same, later, ends, told, owed))
 
 pub meaning_clock : (inv : Configuration) (w : World) (es : List Entry) → (meaning_from inv w es).clock ≡ max w.clock (greatest_time es)
 unfolding meaning_from

@@ -1,5 +1,5 @@
 -- What remains, what begins and what is over under a new inventory.
-use Rattle.std.proofs.Common.{◌≡◌, ◌≢◌, ℕ, zero, suc, ◌<◌, ◌≤◌, Bool, true, false, cond, ◌&&◌, ◌==◌, List, [], ◌∷◌, length, map, filter, filter_map, leb, if◌then◌else◌, Option, Some, None, is_some, slice_get, Contains, option_map, inl, inr, refl, ap, sym, ◌∙◌, arith}
+use Rattle.std.proofs.Common.{◌≡◌, ◌≢◌, ℕ, ◌<◌, ◌≤◌, Bool, true, false, cond, ◌&&◌, ◌==◌, List, [], ◌∷◌, length, map, filter, filter_map, leb, if◌then◌else◌, Option, Some, None, is_some, slice_get, Contains, option_map, inl, inr, refl, ap, sym, ◌∙◌, arith}
 use Rattle.std.specs.List.{cons_option}
 use Rattle.std.proofs.lemmas.Bool.{eq-eqb, ne_eqb, eqb-true, lt-leb, le-leb, cases_lt}
 use Rattle.std.proofs.lemmas.List.{length-map}
@@ -18,21 +18,23 @@ use Rattle.mon_inventory.specs.declared.records.ContactSpec.{ContactSpec}
 use Rattle.mon_inventory.specs.Lookups.{contact_of}
 use Rattle.mon_inventory.specs.Configuration.{Configuration}
 use Rattle.mon_inventory.specs.Facts.{IsInventory}
+use Rattle.mon_engine.specs.declared.ends.Owed.{Owed}
 use Rattle.mon_engine.specs.declared.object.Object.{Object}
 use Rattle.mon_engine.specs.Objects.{is_of_hard_problem, since_after}
 use Rattle.mon_engine.specs.World.{World}
 use Rattle.mon_engine.specs.Sound.{IsObjectState}
 use Rattle.mon_engine.specs.Saved.{IsSaved}
 use Rattle.mon_carry.specs.Names.{IsSameObject, place_in, moved}
-use Rattle.mon_carry.specs.Carried.{item_at, status_within, object_within, known_or_first, object_carried, switch_or_first, contact_carried, comment_at, comment_on, comment_carried, downtime_on, downtime_carried, carried}
-use Rattle.mon_carry.specs.CarryLaws.{ObjectsStand, StatusesStand, CommentsStand, DowntimesStand, DepthsStand, ContactsStand, TheSameInventoryChangesNothing, NewObjectsBegin, NewObjectsHaveNoComments, NewObjectsHaveNoDowntimes, NewContactsBegin, IsOfSameObject, CommentsAreOfObjectsThatStand, DowntimesOfGoneObjectsAreOver, WhatWaitsForThemDoesNotStart, AllElseGoesOn}
+use Rattle.mon_carry.specs.Carried.{item_at, status_within, object_within, known_or_first, object_carried, objects_carried, switch_or_first, contact_carried, comment_at, comment_on, comment_carried, downtime_on, downtime_carried, carried}
+use Rattle.mon_carry.specs.CarryLaws.{ObjectsStand, StatusesStand, CommentsStand, DowntimesStand, DepthsStand, ContactsStand, TheSameInventoryChangesNothingElse, TheSameInventoryChangesNothing, NewObjectsBegin, NewObjectsHaveNoComments, NewObjectsHaveNoDowntimes, NewContactsBegin, IsOfSameObject, CommentsAreOfObjectsThatStand, DowntimesOfGoneObjectsAreOver, WhatWaitsForThemDoesNotStart, AllElseGoesOn}
 use Rattle.mon_carry.proofs.ListLemmas.{same_places, map_map, count_map, find_map, All-filter_map, filter_map_all, map_all}
 use Rattle.mon_carry.proofs.NameLemmas.{contact_is, contact_none}
-use Rattle.mon_carry.proofs.PlaceLemmas.{moved_is, place_back, moved_same, gone_moved, new_place, same_once, itself}
+use Rattle.mon_carry.proofs.PlaceLemmas.{moved_is, place_back, moved_same, gone_moved, new_place, same_once, itself, stays}
+use Rattle.mon_carry.proofs.OwedLemmas.{same_owed}
 
 -- ---- objects
 
-mapped_at : {X Y : Type 0} (f : X → Y) (xs : List X) (k : ℕ) (x : X) → slice_get xs k ≡ Some x → slice_get (map f xs) k ≡ Some (f x)
+pub mapped_at : {X Y : Type 0} (f : X → Y) (xs : List X) (k : ℕ) (x : X) → slice_get xs k ≡ Some x → slice_get (map f xs) k ≡ Some (f x)
 mapped_at f xs k x e = slice_get-map f xs k ∙ ap (option_map f) e
 
 -- the state that is carried to an object whose names are found in the old inventory
@@ -209,28 +211,21 @@ same_contacts inv w sound h = same_places _ w.contacts (length-map inv.contacts 
             let is = same_Some x _ (sym a ∙ mapped_at (contact_carried inv.contacts w.contacts) inv.contacts k c e) in
             is ∙ contact_from inv.contacts w.contacts c (Some s) (Some k) (contact_is inv k c c.name sound e refl) b
 
-within_some : {X : Type 0} (xs : List X) (k : ℕ) → k < length xs → slice_get xs k ≡ None → ⊥
-within_some [] k within e = omega arith
-within_some (x ∷ xs) zero within e = cc
-within_some (x ∷ xs) (suc k) within e = within_some xs k (omega arith) e
-
--- under the same inventory an object keeps its index
-stays : (inv : Configuration) (k : ℕ) → IsInventory inv → k < length inv.objects → moved inv.objects inv.objects k ≡ Some k
-stays inv k sound within = by (slice_get inv.objects k) refl
-  where
-    by : (s : Option ObjectSpec) → slice_get inv.objects k ≡ s → moved inv.objects inv.objects k ≡ Some k
-    by None e = absurd (within_some inv.objects k within e)
-    by (Some spec) e = moved_is inv.objects inv k k sound (itself inv.objects k spec e)
-
-pub the_same_inventory_changes_nothing : TheSameInventoryChangesNothing
+pub the_same_inventory_changes_nothing_else : TheSameInventoryChangesNothingElse
 unfolding carried
-the_same_inventory_changes_nothing inv w sound h =
+the_same_inventory_changes_nothing_else inv w sound h =
     rw (
       same_objects inv w sound h,
       same_contacts inv w sound h,
       filter_map_all (λ c. c.object < length inv.objects) (comment_carried inv.objects inv.objects) (λ c within. ap (comment_on c) (stays inv c.object sound within)) w.notes.comments h.world.noted,
       map_all (λ d. d.object < length inv.objects) (downtime_carried inv.objects inv.objects) (λ d within. ap (downtime_on d) (stays inv d.object sound within)) w.downtimes h.world.known,
     ) refl
+
+pub the_same_inventory_changes_nothing : TheSameInventoryChangesNothing
+unfolding carried
+the_same_inventory_changes_nothing inv w sound h still =
+    let owed : (carried inv w inv).owed ≡ w.owed = same_owed inv (objects_carried w.clock inv.objects w.objects inv.objects) w.owed sound h.world.owing h.world.without still in
+    ap (λ (xs : List Owed). record (carried inv w inv) { owed = xs }) owed ∙ the_same_inventory_changes_nothing_else inv w sound h
 
 -- ---- what is new begins
 

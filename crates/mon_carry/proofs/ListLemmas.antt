@@ -1,7 +1,8 @@
 -- Lists that are compared item by item, mapped, or filtered.
 use Rattle.std.proofs.Common.{◌≡◌, ◌≢◌, ℕ, zero, suc, ◌+◌, ◌<◌, Bool, true, false, cond, List, [], ◌∷◌, ◌++◌, set, length, take, map, get_or, Option, Some, None, slice_get, All, count_by, find, filter_map, option_map, refl, ap, sym, ◌∙◌, arith}
-use Rattle.std.specs.List.{cons_option}
+use Rattle.std.specs.List.{cons_option, range_with_len}
 use Rattle.std.proofs.lemmas.List.{map_more}
+use Rattle.std.proofs.lemmas.List.FromFn.{map-range_with_len_more}
 use Rattle.std.proofs.lemmas.List.Sums.{sum_by-cons}
 use Rattle.std.proofs.lemmas.List.Elements.{All-nil, All-cons, All-head, All-tail}
 
@@ -9,6 +10,11 @@ use Rattle.std.proofs.lemmas.List.Elements.{All-nil, All-cons, All-head, All-tai
 pub mapped_more : {X Y : Type 0} (f : X → Y) (xs : List X) (i : ℕ) (x : X) (ys zs : List Y) (y : Y) → i < length xs → x ≡ get_or xs i x → ys ≡ map f (take i xs) → y ≡ f x → zs ≡ ys ++ y ∷ [] → zs ≡ map f (take (i + 1) xs)
 mapped_more {Y = Y} f xs i x ys zs y lt here before is more =
     more ∙ ap (λ (v : List Y). v ++ y ∷ []) before ∙ ap (λ (z : Y). map f (take i xs) ++ z ∷ []) (is ∙ ap f here) ∙ sym (map_more f xs i x lt)
+
+-- one more index of a list that is mapped from the indices
+pub indexed_more : {Y : Type 0} (f : ℕ → Y) (i : ℕ) (ys zs : List Y) (y : Y) → ys ≡ map f (range_with_len 0 i) → y ≡ f i → zs ≡ ys ++ y ∷ [] → zs ≡ map f (range_with_len 0 (i + 1))
+indexed_more {Y = Y} f i ys zs y before is more =
+    more ∙ ap (λ (v : List Y). v ++ y ∷ []) before ∙ ap (λ (z : Y). map f (range_with_len 0 i) ++ z ∷ []) is ∙ sym (map-range_with_len_more f 0 i i (omega arith))
 
 -- ---- place by place
 

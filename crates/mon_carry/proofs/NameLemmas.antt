@@ -108,6 +108,10 @@ pub contact_none : (cs : List ContactSpec) (name : List ℕ) → All (λ c. c.na
 unfolding contact_of
 contact_none cs name none = none_found (is_contact name) (IsContactNamed name) (contact_means name) 0 cs none
 
+pub contact_found : (cs : List ContactSpec) (name : List ℕ) (n : ℕ) → contact_of cs name ≡ Some n → StandsAt (IsContactNamed name) cs n
+unfolding contact_of
+contact_found cs name n e = found (is_contact name) (IsContactNamed name) (contact_means name) cs n e
+
 -- ---- hosts
 
 host_found : (os : List ObjectSpec) (name : List ℕ) (n : ℕ) → host_of os name ≡ Some n → StandsAt (IsHostNamed name) os n

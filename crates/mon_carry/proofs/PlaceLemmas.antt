@@ -1,11 +1,12 @@
--- The indices of objects in the new inventory.
-use Rattle.std.proofs.Common.{◌≡◌, ℕ, ◌<◌, List, Option, Some, None, length, slice_get, refl, ap, sym, ◌∙◌}
-use Rattle.std.proofs.lemmas.Option.{same_Some, slice_get_within}
+-- The indices of objects and contacts in the new inventory.
+use Rattle.std.proofs.Common.{◌≡◌, ℕ, ◌<◌, List, Option, Some, None, length, slice_get, inl, inr, refl, ap, sym, ◌∙◌, arith}
+use Rattle.std.proofs.lemmas.Option.{same_Some, slice_get_within, slice_get_cases}
+use Rattle.mon_inventory.specs.declared.records.ContactSpec.{ContactSpec}
 use Rattle.mon_inventory.specs.declared.records.ObjectSpec.{ObjectSpec}
 use Rattle.mon_inventory.specs.Configuration.{Configuration}
 use Rattle.mon_inventory.specs.Facts.{IsInventory}
-use Rattle.mon_carry.specs.Names.{HaveSameNames, IsSameObject, IsNewObject, IsGoneObject, place_in, place_of, moved}
-use Rattle.mon_carry.proofs.NameLemmas.{place_found, place_is}
+use Rattle.mon_carry.specs.Names.{HaveSameNames, IsSameObject, IsNewObject, IsGoneObject, IsSameContact, place_in, place_of, moved, contact_place_of, contact_moved}
+use Rattle.mon_carry.proofs.NameLemmas.{contact_is, contact_found, place_found, place_is}
 
 pub turned : (a b : ObjectSpec) → HaveSameNames a b → HaveSameNames b a
 turned a b h = record { host = sym h.host; service = sym h.service }
@@ -57,3 +58,33 @@ itself objects k spec e = record { was = spec; is_now = spec; stood = e; stands 
 
 pub moved_within : (old : List ObjectSpec) (new : Configuration) (j k : ℕ) → IsInventory new → moved old new.objects j ≡ Some k → k < length new.objects
 moved_within old new j k sound e = let same = moved_same old new j k sound e in slice_get_within new.objects k same.is_now same.stands
+
+-- under the same inventory an object keeps its index
+pub stays : (inv : Configuration) (k : ℕ) → IsInventory inv → k < length inv.objects → moved inv.objects inv.objects k ≡ Some k
+stays inv k sound within = elim (slice_get_cases inv.objects k).1 [
+  | inl spec ↦ moved_is inv.objects inv k k sound (itself inv.objects k spec.0 spec.2)
+  | inr past ↦ absurd (let far = past.0 in omega arith)
+]
+
+-- ---- contacts
+
+-- a contact in both inventories is found in the new one
+pub contact_moved_is : (old : List ContactSpec) (new : Configuration) (j k : ℕ) → IsInventory new → IsSameContact old new.contacts j k → contact_moved old new.contacts j ≡ Some k
+unfolding contact_moved
+contact_moved_is old new j k sound same = rw same.stood (contact_is new k same.is_now same.was.name sound same.stands (sym same.name))
+
+-- the contact that is found is the same
+pub contact_moved_same : (old new : List ContactSpec) (j k : ℕ) → contact_moved old new j ≡ Some k → IsSameContact old new j k
+unfolding contact_moved
+contact_moved_same old new j k e = by (slice_get old j) refl e
+  where
+    by : (c : Option ContactSpec) → slice_get old j ≡ c → contact_place_of new c ≡ Some k → IsSameContact old new j k
+    by None is e = absurd (cc)
+    by (Some was) is e = let f = contact_found new was.name k e in record { was = was; is_now = f.element; stood = is; stands = f.is; name = sym f.holds }
+
+-- under the same inventory a contact keeps its index
+pub contact_stays : (inv : Configuration) (k : ℕ) → IsInventory inv → k < length inv.contacts → contact_moved inv.contacts inv.contacts k ≡ Some k
+contact_stays inv k sound within = elim (slice_get_cases inv.contacts k).1 [
+  | inl c ↦ contact_moved_is inv.contacts inv k k sound (record { was = c.0; is_now = c.0; stood = c.2; stands = c.2; name = refl })
+  | inr past ↦ absurd (let far = past.0 in omega arith)
+]

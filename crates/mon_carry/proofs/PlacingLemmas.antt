@@ -8,11 +8,12 @@ use Rattle.mon_inventory.specs.Facts.{IsInventory}
 use Rattle.mon_notes.specs.declared.comment.Comment.{Comment}
 use Rattle.mon_downtime.specs.declared.downtime.Downtime.{Downtime}
 use Rattle.mon_notify.specs.declared.contacts.ContactSwitch.{ContactSwitch}
+use Rattle.mon_engine.specs.declared.ends.Owed.{Owed}
 use Rattle.mon_engine.specs.declared.object.Object.{Object}
 use Rattle.mon_engine.specs.Objects.{initial_object}
 use Rattle.mon_engine.specs.World.{World}
 use Rattle.mon_carry.specs.Names.{place_in}
-use Rattle.mon_carry.specs.Carried.{item_at, object_within, known_or_first, object_carried, contact_carried, comment_carried, downtime_carried, carried}
+use Rattle.mon_carry.specs.Carried.{item_at, object_within, known_or_first, object_carried, objects_carried, contact_carried, owed_under, comment_carried, downtime_carried, carried}
 use Rattle.mon_carry.specs.Placing.{with_known_of, with_known}
 use Rattle.mon_carry.proofs.ListLemmas.{map_agrees, map_set}
 use Rattle.mon_carry.proofs.NameLemmas.{place_found, place_is}
@@ -117,8 +118,8 @@ next_known front x rest all i whole at = rw (← whole, at) (seam front x rest)
 
 -- ---- the world
 
-pub world_is : (old new : Configuration) (w : World) (os : List Object) (switches : List ContactSwitch) (cs : List Comment) (ds : List Downtime) → os ≡ map (object_carried w.clock old.objects w.objects) new.objects → switches ≡ map (contact_carried old.contacts w.contacts) new.contacts
-    → cs ≡ filter_map (comment_carried old.objects new.objects) w.notes.comments → ds ≡ map (downtime_carried old.objects new.objects) w.downtimes
-    → record w { notes = record { comments = cs; last_id = w.notes.last_id }; downtimes = ds; objects = os; contacts = switches } ≡ carried old w new
+pub world_is : (old new : Configuration) (w : World) (os : List Object) (switches : List ContactSwitch) (owed : List Owed) (cs : List Comment) (ds : List Downtime) → os ≡ objects_carried w.clock old.objects w.objects new.objects → switches ≡ map (contact_carried old.contacts w.contacts) new.contacts
+    → owed ≡ owed_under old new os w.owed → cs ≡ filter_map (comment_carried old.objects new.objects) w.notes.comments → ds ≡ map (downtime_carried old.objects new.objects) w.downtimes
+    → record w { notes = record { comments = cs; last_id = w.notes.last_id }; downtimes = ds; objects = os; contacts = switches; owed = owed } ≡ carried old w new
 unfolding carried
-world_is old new w os switches cs ds o s c d = rw (o, s, c, d) refl
+world_is old new w os switches owed cs ds o s x c d = rw (x, o, s, c, d) refl

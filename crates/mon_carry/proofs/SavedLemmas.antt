@@ -21,11 +21,12 @@ use Rattle.mon_engine.specs.Objects.{is_service, is_of_hard_problem, initial_obj
 use Rattle.mon_engine.specs.Sound.{IsObjectState, AreObjectStates, IsNoticeOf, raised}
 use Rattle.mon_engine.specs.Saved.{IsSaidObject, IsSaidComment, IsSaidDowntime}
 use Rattle.mon_carry.specs.Names.{place_in, moved}
-use Rattle.mon_carry.specs.Carried.{item_at, status_within, since_within, object_within, known_or_first, object_carried, contact_carried, comment_at, comment_on, comment_carried, downtime_on, downtime_carried, carried}
+use Rattle.mon_carry.specs.Carried.{item_at, status_within, since_within, object_within, known_or_first, object_carried, objects_carried, contact_carried, comment_at, comment_on, comment_carried, downtime_on, downtime_carried, carried}
 use Rattle.mon_carry.specs.CarryLaws.{ACarriedWorldIsSaved}
 use Rattle.mon_carry.proofs.ListLemmas.{All-filter_map}
 use Rattle.mon_carry.proofs.NameLemmas.{place_found}
 use Rattle.mon_carry.proofs.PlaceLemmas.{moved_within}
+use Rattle.mon_carry.proofs.OwedLemmas.{under_owing, under_numbers, under_nobody}
 
 -- ---- an object
 
@@ -204,6 +205,10 @@ a_carried_world_is_saved old new w sound-old sound-new h places = record {
     clock = h.world.clock;
     states = carried_states w.clock (raised w) old new w.objects h.world.clock sound-old sound-new h.world.states h.said.objects;
     contacts = length-map new.contacts (contact_carried old.contacts w.contacts);
+    owing = under_owing old new (objects_carried w.clock old.objects w.objects new.objects) w.owed;
+    ends = under_numbers (GREATEST_NUMBER + raised w) old new (objects_carried w.clock old.objects w.objects new.objects) w.owed h.world.ends
+        (carried_states w.clock (raised w) old new w.objects h.world.clock sound-old sound-new h.world.states h.said.objects).numbers;
+    without = under_nobody old new (objects_carried w.clock old.objects w.objects new.objects) w.owed;
     comments = h.world.comments;
     noted = All-filter_map (λ c. c.object < length new.objects) (λ c. Unit {0}) (comment_carried old.objects new.objects)
         (λ c x _ e. comment_holds (λ c. c.object < length new.objects) old.objects new.objects c x (λ m f. moved_within old.objects new c.object m sound-new f) e) w.notes.comments (λ i c within. tt);

@@ -1,7 +1,7 @@
 -- A monitor's world under a new inventory: objects and contacts with the same names keep their state, whatever their
 -- indices.
-use Rattle.std.specs.Prelude.{◌≢◌, ℕ, nat_le, true, if◌then◌else◌, List, [], Option, Some, None, map, slice_get}
-use Rattle.std.specs.List.{filter_map}
+use Rattle.std.specs.Prelude.{◌≢◌, ℕ, nat_le, true, if◌then◌else◌, List, [], length, Option, Some, None, map, slice_get}
+use Rattle.std.specs.List.{filter_map, range_with_len}
 use Rattle.mon_checks.specs.declared.status.Status.{Status}
 use Rattle.mon_notes.specs.declared.comment.Comment.{Comment}
 use Rattle.mon_downtime.specs.declared.downtime.Downtime.{Downtime}
@@ -10,11 +10,14 @@ use Rattle.mon_notify.specs.declared.contacts.ContactSwitch.{ContactSwitch}
 use Rattle.mon_inventory.specs.declared.records.ObjectSpec.{ObjectSpec}
 use Rattle.mon_inventory.specs.declared.records.ContactSpec.{ContactSpec}
 use Rattle.mon_inventory.specs.Lookups.{contact_of}
-use Rattle.mon_inventory.specs.Configuration.{Configuration}
+use Rattle.mon_inventory.specs.Configuration.{Configuration, recovers_the_told}
+use Rattle.mon_notify.specs.Ends.{still_owed}
+use Rattle.mon_engine.specs.declared.ends.Owed.{Owed}
 use Rattle.mon_engine.specs.declared.object.Object.{Object}
 use Rattle.mon_engine.specs.Objects.{initial_object, since_after}
+use Rattle.mon_engine.specs.Owed.{nobody, initial_owed, presumed}
 use Rattle.mon_engine.specs.World.{World, initial_contact}
-use Rattle.mon_carry.specs.Names.{place_in, moved}
+use Rattle.mon_carry.specs.Names.{place_in, place_of, moved, contact_moved}
 
 -- the item at this place, if there is one
 abbrev pub item_at : {A : Type 0} → List A → Option ℕ → Option A
@@ -46,6 +49,10 @@ known_or_first clock spec (Some o) = object_within clock spec.max o
 unfoldable pub object_carried : (clock : ℕ) → (old : List ObjectSpec) → List Object → ObjectSpec → Object
 object_carried clock old os spec = known_or_first clock spec (item_at os (place_in old spec))
 
+-- the states of all objects of the new inventory
+abbrev pub objects_carried : (clock : ℕ) → (old : List ObjectSpec) → List Object → (new : List ObjectSpec) → List Object
+objects_carried clock old os new = map (object_carried clock old os) new
+
 -- ---- contacts
 
 -- the old switches of a contact, where it had some; else both are on
@@ -56,6 +63,33 @@ switch_or_first c (Some switch) = switch
 -- the switches of a contact of the new inventory are those of the contact of its name; a new contact's are on
 unfoldable pub contact_carried : (old : List ContactSpec) → List ContactSwitch → ContactSpec → ContactSwitch
 contact_carried old switches c = switch_or_first c (item_at switches (contact_of old c.name))
+
+-- ---- who is owed the end of a problem
+
+-- these contacts at their new indices, by their names; those that are gone are left out
+unfoldable pub contacts_moved : (old new : List ContactSpec) → List ℕ → List ℕ
+contacts_moved old new contacts = filter_map (contact_moved old new) contacts
+
+-- who is owed the end of the problem of the object at this index of the new inventory: of those who were owed it, those
+-- who hear of ends of the object there and are contacts of it or of one of its escalations; of a new object nobody
+abbrev pub owed_or_nobody : (old new : Configuration) → (object : ℕ) → Option Owed → Owed
+owed_or_nobody old new object None = nobody
+owed_or_nobody old new object (Some x) = record { contacts = still_owed new object (contacts_moved old.contacts new.contacts x.contacts); number = x.number }
+
+-- the same, by the old list: it is who was owed the end of the old object with the same names that counts
+abbrev pub owed_carried_at : (old new : Configuration) → List Owed → (object : ℕ) → Owed
+owed_carried_at old new owed object = owed_or_nobody old new object (item_at owed (place_of old.objects (slice_get new.objects object)))
+
+-- of each object of the new inventory
+unfoldable pub owed_carried : (old new : Configuration) → List Owed → List Owed
+owed_carried old new owed = map (owed_carried_at old new owed) (range_with_len 0 (length new.objects))
+
+-- who is owed the end of each object's problem under the new inventory, whose objects are in these states: where both
+-- inventories have the option `recover_the_told`, those who were and still are; where only the new one has it, those
+-- who are presumed to be; else nobody
+abbrev pub owed_under : (old new : Configuration) → List Object → List Owed → List Owed
+owed_under old new os owed =
+    if recovers_the_told new then (if recovers_the_told old then owed_carried old new owed else presumed new os) else map initial_owed new.objects
 
 -- ---- comments and downtimes
 
@@ -90,8 +124,9 @@ unfoldable pub carried : (old : Configuration) → World → (new : Configuratio
 carried old w new = record w {
   notes = record { comments = filter_map (comment_carried old.objects new.objects) w.notes.comments; last_id = w.notes.last_id };
   downtimes = map (downtime_carried old.objects new.objects) w.downtimes;
-  objects = map (object_carried w.clock old.objects w.objects) new.objects;
+  objects = objects_carried w.clock old.objects w.objects new.objects;
   contacts = map (contact_carried old.contacts w.contacts) new.contacts;
+  owed = owed_under old new (objects_carried w.clock old.objects w.objects new.objects) w.owed;
 }
 
 -- where a downtime was ever scheduled, the new inventory has an object

@@ -10,6 +10,7 @@ use crate::comments::carry_comments;
 use crate::contacts::carry_contacts;
 use crate::downtimes::carry_downtimes;
 use crate::objects::carry_objects;
+use crate::owed::carry_owed;
 use cmd_types::Memory;
 use mon_downtime::Downtime;
 use mon_engine::Parts;
@@ -65,9 +66,15 @@ fn has_places(downtimes: &[Downtime], new: &Inventory) -> bool
 /// both inventories keeps its switches; those of a new contact are on. The clock, the program's switches, the ids and
 /// the count of entries are unchanged.
 ///
+/// Where both inventories have the option `recover_the_told`, a contact that is owed the end of an object's problem
+/// stays owed it where it is still there, has the letter r, as the object has, and is a contact of the object or of one
+/// of its escalations. Where only the new inventory has the option, those contacts are owed an end whom
+/// [`presumed_owed`](mon_engine::presumed_owed) returns; where the new inventory has no such option, nobody is.
+///
 /// Requires that these parts fit the old inventory ([`misfit`](mon_engine::Parts::misfit)); the returned parts then fit
 /// the new one. After an error the parts are dropped. The time is linear in the number of objects, contacts, comments
-/// and downtimes.
+/// and downtimes. With the option `recover_the_told`, each object whose problem was notified adds time linear in the
+/// number of contacts.
 ///
 /// # Errors
 /// [`CarryFault::NoObject`] where the new inventory has no object and a downtime was ever scheduled; this is tested
@@ -116,12 +123,14 @@ pub fn carry(
         program,
         objects,
         contacts,
+        owed,
         last_comment,
         comments,
         mut downtimes,
     } = parts;
     let objects = carry_objects(alloc, old, objects, new, clock)?;
     let contacts = carry_contacts(alloc, old, &contacts, new)?;
+    let owed = carry_owed(alloc, old, &owed, new, &objects)?;
     let comments = carry_comments(alloc, old, comments, new)?;
     carry_downtimes(old, &mut downtimes, new);
     Ok(Parts {
@@ -130,6 +139,7 @@ pub fn carry(
         program,
         objects,
         contacts,
+        owed,
         last_comment,
         comments,
         downtimes,

@@ -9,6 +9,7 @@ mod contacts;
 mod downtimes;
 mod laws;
 mod objects;
+mod owed;
 mod places;
 
 pub use carrying::{CarryFault, carry};

@@ -1,9 +1,9 @@
 //! Tests of what is carried to a new inventory, by the report of the monitor that resumes from it.
 use super::*;
-use cmd_types::{Memory, Text};
+use cmd_types::{Memory, Numbers, Text};
 use mon_checks::Status;
 use mon_downtime::{Downtime, Fate, Plan, Times};
-use mon_engine::{Acknowledgement, Moments, Monitor, Object, Parts, Program};
+use mon_engine::{Acknowledgement, Moments, Monitor, Object, Owed, Parts, Program};
 use mon_inventory::Inventory;
 use mon_notes::{BoxedText, Comment};
 use mon_notify::ContactSwitch;
@@ -13,6 +13,7 @@ use std::test::Fail;
 
 mod examples;
 mod gone;
+mod owed;
 mod told;
 
 /// The profile's worked inventory: a host and its service.
@@ -132,9 +133,29 @@ const FIRST: ContactSwitch = ContactSwitch {
     service: true,
 };
 
-/// Parts of these objects and contacts, without comments and downtimes.
-fn parts_of(alloc: Global, objects: Vec<Object>, contacts: Vec<ContactSwitch>) -> Parts {
-    Parts {
+/// These contacts are owed the end of a problem, under this number.
+fn owed_to(alloc: Global, contacts: &[u16], number: u64) -> Result<Owed, Memory> {
+    let mut numbers = Numbers::new(Vec::new(alloc));
+    for contact in contacts {
+        numbers.push(alloc, *contact)?;
+    }
+    Ok(Owed {
+        contacts: numbers,
+        number,
+    })
+}
+
+/// Parts of these objects and contacts, without comments and downtimes; nobody is owed the end of a problem.
+fn parts_of(
+    alloc: Global,
+    objects: Vec<Object>,
+    contacts: Vec<ContactSwitch>,
+) -> Result<Parts, Memory> {
+    let mut owed = Vec::new(alloc);
+    for _ in &objects {
+        owed.push(owed_to(alloc, &[], 0)?)?;
+    }
+    Ok(Parts {
         clock: 550,
         before: 9,
         program: Program {
@@ -144,10 +165,11 @@ fn parts_of(alloc: Global, objects: Vec<Object>, contacts: Vec<ContactSwitch>) -
         },
         objects,
         contacts,
+        owed,
         last_comment: 2,
         comments: Vec::new(alloc),
         downtimes: Vec::new(alloc),
-    }
+    })
 }
 
 /// The parts of the worked inventory: notices of web are off and those of bob on hosts; http is in an acknowledged
@@ -158,7 +180,7 @@ fn worked(alloc: Global) -> Result<Parts, Memory> {
     web.not_before = Some(2_000);
     let objects = Vec::from_array(alloc, [web, critical(alloc)?])?;
     let contacts = Vec::from_array(alloc, [FIRST, SWITCHED])?;
-    let mut parts = parts_of(alloc, objects, contacts);
+    let mut parts = parts_of(alloc, objects, contacts)?;
     parts.comments.push(comment(alloc, 1, 1)?)?;
     parts.downtimes.push(downtime(alloc, 1, 1, 0, Fate::Over)?)?;
     parts.downtimes.push(downtime(alloc, 2, 1, 0, ACTIVE)?)?;

@@ -33,7 +33,7 @@ del_follows inv w w' kind id h e = del_comment_cases (Follows inv w) inv w w' ki
 acknowledged_world : (inv : Configuration) (w : World) (object sticky : ℕ) (persistent : Bool) (author text : List ℕ) → IsWorld inv w → object < length inv.objects → IsWorldAt inv (ever w + 1) (raised w + 1) (acknowledge w object sticky persistent author text)
 acknowledged_world inv w object sticky persistent author text h within =
     let next = commented_world inv w object true persistent author text h within in
-    with_states inv (ever w + 1) (raised w + 1) (raised w + 1) (commented w object true persistent author text) _ next
+    with_states inv (ever w + 1) (raised w + 1) (raised w + 1) (commented w object true persistent author text) _ (omega arith) next
     (kept_states (raised w + 1) inv.objects w.objects object (with_acknowledgement (acknowledgement_of sticky)) (λ o. refl) (λ o. refl) (λ o. refl) next.states)
 
 pub acknowledge_follows : (inv : Configuration) (w w' : World) (object sticky : ℕ) (notify persistent : Bool) (author text : List ℕ) → IsWorld inv w → object < length inv.objects
@@ -50,7 +50,7 @@ unacknowledge_follows inv w object h =
     let next = next_world inv w h in
     unacknowledge_cases (Follows inv w) w object (record { world = next; entries = refl; before = refl })
     (λ o at is. record {
-      world = with_states inv (ever w + 1) (raised w + 1) (raised w + 1) (record w { notes = without_acknowledged object w.notes }) _
+      world = with_states inv (ever w + 1) (raised w + 1) (raised w + 1) (record w { notes = without_acknowledged object w.notes }) _ (omega arith)
           (fewer_world inv (ever w + 1) (raised w + 1) w (λ c. not ((eqb c.object object) && c.ack && not c.persistent)) next)
           (kept_states (raised w + 1) inv.objects w.objects object (with_acknowledgement Unacknowledged) (λ o. refl) (λ o. refl) (λ o. refl) next.states);
       entries = refl;

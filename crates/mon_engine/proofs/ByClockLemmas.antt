@@ -1,7 +1,7 @@
 -- What the clock tells: of each object that is ready its notice, and nothing of another one.
 use Rattle.std.proofs.Common.{◌≡◌, ◌⊎◌, inl, inr, ℕ, zero, suc, ◌+◌, ◌<◌, ◌≤◌, Bool, true, false, true≢false, not, ◌&&◌, ◌||◌, eqb, nat_lt, if◌then◌else◌, List, [], ◌∷◌, ◌++◌, length, Option, Some, None, is_some, slice_get, option_to_list, fold, refl, ap, sym, ◌∙◌, subst, append_assoc, append-nil, arith}
 use Rattle.std.specs.List.{flat_map, range_with_len}
-use Rattle.std.proofs.lemmas.Bool.{cases_lt, and_parts, or_cases, eq-eqb, eqb-true, ltb-true, leb-true, not-true, false_from_ne_true, ne_eqb}
+use Rattle.std.proofs.lemmas.Bool.{cases_lt, and_parts, or_cases, eq-eqb, eqb-true, ltb-true, leb-true, not-true, false_from_ne_true}
 use Rattle.std.proofs.lemmas.Grind.{flat_map-append}
 use Rattle.std.proofs.lemmas.List.{map-id}
 use Rattle.std.proofs.lemmas.List.FromFn.{map-range_with_len_more}
@@ -23,11 +23,10 @@ use Rattle.mon_engine.specs.Places.{changed_at}
 use Rattle.mon_engine.specs.Sound.{IsTellable}
 use Rattle.mon_engine.specs.Withheld.{next_problem, withheld_by, withheld_of}
 use Rattle.mon_engine.specs.ByClock.{told_among, told_by_clock}
-use Rattle.mon_engine.specs.Step.{acted, step}
-use Rattle.mon_engine.specs.ByClockLaws.{unless, ready_notice_of, ready_notice, ready_notices, after_ready, TellsWhatIsReady, TheClockTellsWhatIsReady, NothingIsToldByTheClock, NobodyIsForgotten}
+use Rattle.mon_engine.specs.ByClockLaws.{unless, ready_notice_of, ready_notice, ready_notices, after_ready, TellsWhatIsReady, TheClockTellsWhatIsReady}
 use Rattle.mon_engine.proofs.ListLemmas.{All-each, changed_here, changed_other, changed_reads, length-changed_at}
 use Rattle.mon_engine.proofs.NewsLemmas.{More, if_some}
-use Rattle.mon_engine.proofs.UnlessLemmas.{IsUnless, problem_unless, withheld_is}
+use Rattle.mon_engine.proofs.UnlessLemmas.{IsUnless, problem_unless}
 
 -- ---- one object
 
@@ -83,7 +82,7 @@ ready_there inv w k n e = by_object (slice_get inv.objects k) (slice_get w.objec
     by_object (Some spec) None known at is = absurd (cc)
     by_object (Some spec) (Some o) known at is = (spec, o, known, at)
 
-ready_at : (inv : Configuration) (w : World) (k : ℕ) (spec : ObjectSpec) (o : Object) → slice_get inv.objects k ≡ Some spec → slice_get w.objects k ≡ Some o → ready_notice inv w k ≡ ready_notice_of inv w k spec o
+pub ready_at : (inv : Configuration) (w : World) (k : ℕ) (spec : ObjectSpec) (o : Object) → slice_get inv.objects k ≡ Some spec → slice_get w.objects k ≡ Some o → ready_notice inv w k ≡ ready_notice_of inv w k spec o
 unfolding ready_notice
 ready_at inv w k spec o known at = ap (λ (s : Option ObjectSpec). of_object None (ready_notice_of inv w k) s (slice_get w.objects k)) known ∙ ap (of_object None (ready_notice_of inv w k) (Some spec)) at
 
@@ -191,7 +190,7 @@ record AreTold (inv : Configuration) (w : World) (count : ℕ) (v : World) : Typ
   earlier : (k : ℕ) (o : Object) → k < count → slice_get w.objects k ≡ Some o → slice_get v.objects k ≡ Some (after_ready inv w k o)
   none : (k : ℕ) → k < count → ready_notice inv v k ≡ None
 
-range_more : (n : ℕ) → range_with_len 0 (n + 1) ≡ range_with_len 0 n ++ n ∷ []
+pub range_more : (n : ℕ) → range_with_len 0 (n + 1) ≡ range_with_len 0 n ++ n ∷ []
 range_more n = sym (map-id (range_with_len 0 (n + 1))) ∙ map-range_with_len_more (λ x. x) 0 n n (omega arith) ∙ ap (λ (xs : List ℕ). xs ++ n ∷ []) (map-id (range_with_len 0 n))
 
 pub told_more : (inv : Configuration) (w : World) (n : ℕ) → told_among inv w (n + 1) ≡ told_problem inv Clock (told_among inv w n) n
@@ -202,7 +201,7 @@ notices_more inv w n =
     let f = λ (k : ℕ). option_to_list (ready_notice inv w k) in
     ap (flat_map f) (range_more n) ∙ flat_map-append f (range_with_len 0 n) (n ∷ []) ∙ ap (λ (x : List Notice). ready_notices inv w n ++ x) (append-nil (f n))
 
-cases_below : (k n : ℕ) → k < n + 1 → (k < n) ⊎ (k ≡ n)
+pub cases_below : (k n : ℕ) → k < n + 1 → (k < n) ⊎ (k ≡ n)
 cases_below k n low = elim (cases_lt k n) [
   | inl below ↦ inl below
   | inr high ↦ inr (omega (arith, low, high))
@@ -298,10 +297,6 @@ pub clock_off : (inv : Configuration) (w : World) → tells_by_clock inv ≡ fal
 unfolding told_by_clock
 clock_off inv w off = ap (λ (b : Bool). if b then told_among inv w (length inv.objects) else w) off
 
-pub nothing_is_told_by_the_clock : NothingIsToldByTheClock
-unfolding step
-nothing_is_told_by_the_clock inv w e off = ap (λ (v : World). (v, (acted inv w e).1)) (clock_off inv (acted inv w e).0 off)
-
 pub none_beyond : (inv : Configuration) (w : World) (k : ℕ) → length inv.objects ≤ k → ready_notice inv w k ≡ None
 unfolding ready_notice
 none_beyond inv w k high = ap (λ (s : Option ObjectSpec). of_object None (ready_notice_of inv w k) s (slice_get w.objects k)) (slice_get_past inv.objects k high)
@@ -325,15 +320,6 @@ none_is_ready inv w k on = elim (cases_lt k (length inv.objects)) [
   | inl low ↦ ap (λ (v : World). ready_notice inv v k) (clock_on inv w on) ∙ (are_told inv w (length inv.objects)).none k low
   | inr high ↦ none_beyond inv (told_by_clock inv w) k high
 ]
-
-pub nobody_is_forgotten : NobodyIsForgotten
-unfolding step
-nobody_is_forgotten inv w e k spec o on known at bad free =
-    let v : World = told_by_clock inv (acted inv w e).0 in
-    let quiet : ready_notice_of inv v k spec o ≡ None = sym (ready_at inv v k spec o known at) ∙ none_is_ready inv (acted inv w e).0 k on in
-    let passes : withheld_of inv v Clock k spec o ≡ None = sym (withheld_is inv v Clock k spec o known at) ∙ free in
-    let tells : Some (next_problem inv v k spec o) ≡ None = ap (λ (h : Option Withheld). unless h (next_problem inv v k spec o)) (sym passes) ∙ ap (λ (b : Bool). if b then None else unless (withheld_of inv v Clock k spec o) (next_problem inv v k spec o)) (sym (ne_eqb o.status.code 0 bad)) ∙ quiet in
-    absurd cc
 
 -- ---- what the clock leaves alone
 

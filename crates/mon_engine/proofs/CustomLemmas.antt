@@ -30,7 +30,7 @@ custom_follows inv w object options h =
     (λ spec o known at n e. (let number = custom_number options o in
     let sound = sound_as _ (custom_notice_as inv w object number options spec o (slice_get_within inv.objects object spec known)) in
     record {
-      world = with_states inv (ever w + 1) (raised w + 1) (raised w + 1) (told w (Some n)) _ (with_more_notices inv (ever w + 1) (raised w + 1) w _ next (subst (IfAny (IsNoticeOf inv)) e sound))
+      world = with_states inv (ever w + 1) (raised w + 1) (raised w + 1) (told w (Some n)) _ (omega arith) (with_more_notices inv (ever w + 1) (raised w + 1) w _ next (subst (IfAny (IsNoticeOf inv)) e sound))
           (changed_states (raised w + 1) (raised w + 1) inv.objects w.objects object (with_setting (settings.Number number)) (omega arith) next.states (λ spec o a s. same_status spec o _ refl refl s)
           (λ x few. number_small (raised w) options o (h.states.numbers object o at)));
       entries = refl;

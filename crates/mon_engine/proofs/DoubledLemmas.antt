@@ -19,9 +19,11 @@ use Rattle.mon_engine.specs.Acknowledgements.{commented, acknowledge, told_ackno
 use Rattle.mon_engine.specs.Step.{counted, acted, step}
 use Rattle.mon_engine.specs.Laws.{moment_of, comment_by, DoubledCommentsShow}
 use Rattle.mon_engine.proofs.ActLemmas.{ok_is, acknowledge_cases}
-use Rattle.mon_engine.proofs.ByClockLemmas.{clock_leaves, clock_object}
+use Rattle.mon_engine.proofs.ByClockLemmas.{clock_object}
 use Rattle.mon_engine.proofs.EntryLemmas.{found, applied_from, applied_by, found_clock, found_notes, kept_objects, end_notes}
 use Rattle.mon_engine.proofs.ListLemmas.{changed_here}
+use Rattle.mon_engine.proofs.EndLemmas.{step_leaves, step_objects, ends_objects}
+use Rattle.mon_engine.specs.Ends.{told_ends}
 
 -- ---- an acknowledgement's comment
 
@@ -89,12 +91,11 @@ again inv v b v2 time id c _ e h still = absurd (cc)
 -- one entry adds one comment
 adds : (inv : Configuration) (w : World) (e : Entry) (a : Act) (id : ℕ) (c : Comment) → (acted inv w e).1 ≡ Applied → named inv e.stamped.command ≡ Ok a → comment_by a (moment_of w e) id ≡ Some c → id ≡ w.notes.last_id + 1
     → (step inv w e).0.notes ≡ record { comments = w.notes.comments ++ c ∷ []; last_id = id }
-unfolding step
 adds inv w e a id c applied asked is l =
     let from = applied_from inv w e a applied asked in
     let notes : (found inv w e).notes ≡ w.notes = found_notes inv w e in
     let next : id ≡ (found inv w e).notes.last_id + 1 = l ∙ ap (λ (n : CommentList). n.last_id + 1) (sym notes) in
-    ap (λ (x : World). x.notes) (clock_leaves inv (acted inv w e).0)
+    ap (λ (x : World). x.notes) (step_leaves inv w e)
     ∙ ap (λ (p : World × Outcome). p.0.notes) from.2
     ∙ end_notes inv from.0 (moment_of w e)
     ∙ brings inv (found inv w e) from.0 (moment_of w e) id c a from.1 is next (found_clock inv w e)
@@ -109,14 +110,13 @@ still_problem inv w object h = elim (clock_object inv w object h.0 h.1) [
 
 applied_again : (inv : Configuration) (w : World) (first second : Entry) (a : Act) (id : ℕ) (c : Comment) → (acted inv w first).1 ≡ Applied → named inv first.stamped.command ≡ Ok a → named inv second.stamped.command ≡ Ok a
     → comment_by a (moment_of w first) id ≡ Some c → (acted inv (step inv w first).0 second).1 ≡ Applied
-unfolding step
 applied_again inv w first second a id c applied asked asked2 is =
     let from = applied_from inv w first a applied asked in
     let v = (acted inv w first).0 in
-    let u = told_by_clock inv v in
+    let u = (step inv w first).0 in
     let same : v.objects ≡ from.0.objects = ap (λ (p : World × Outcome). p.0.objects) from.2 ∙ kept_objects inv (counted from.0) (moment_of w first) in
     let on = again inv (found inv w first) from.0 (found inv u second) (moment_of w first) id c a from.1 is
-    (λ object problem. subst (λ (os : List Object). IsProblemAt os object) (sym (kept_objects inv u (moment_of u second))) (still_problem inv v object (subst (λ (os : List Object). IsProblemAt os object) (sym same) problem))) in
+    (λ object problem. subst (λ (os : List Object). IsProblemAt os object) (sym (kept_objects inv u (moment_of u second))) (subst (λ (os : List Object). IsProblemAt os object) (sym (step_objects inv w first)) (still_problem inv (told_ends inv v) object (subst (λ (os : List Object). IsProblemAt os object) (sym (ends_objects inv v ∙ same)) problem)))) in
     ap (λ (p : World × Outcome). p.1) (applied_by inv u second a on.0 asked2 on.1)
 
 pub doubled_comments_show : DoubledCommentsShow

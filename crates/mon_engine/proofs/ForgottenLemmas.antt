@@ -1,7 +1,7 @@
 -- No entry reads the lists of what was told, nor how many entries there were: what it does is the same behind any lists and counts.
-use Rattle.std.proofs.Common.{◌≡◌, ℕ, ◌+◌, Bool, true, false, eqb, if◌then◌else◌, List, [], ◌∷◌, ◌++◌, Option, Some, None, Result, Ok, Err, slice_get, option_to_list, fold, length, drop, max, refl, ap, sym, ◌∙◌, append_assoc, append-nil, arith}
+use Rattle.std.proofs.Common.{◌≡◌, ℕ, ◌+◌, Bool, true, false, eqb, if◌then◌else◌, List, [], ◌∷◌, ◌++◌, Option, Some, None, Result, Ok, Err, slice_get, option_to_list, fold, length, drop, max, refl, ap, sym, ◌∙◌, append_assoc, append-nil, arith, length-append}
 use Rattle.std.specs.List.{range_with_len}
-use Rattle.std.proofs.Math.Seq.{drop-append_seam}
+use Rattle.std.proofs.Math.Seq.{drop-append_seam, drop-append-add}
 use Rattle.cmd_types.specs.declared.entry.Entry.{Entry}
 use Rattle.mon_checks.specs.declared.transition.Change.{Change}
 use Rattle.mon_checks.specs.States.{change_by}
@@ -14,7 +14,7 @@ use Rattle.mon_downtime.specs.Schedule.{Fault, fault_of}
 use Rattle.mon_downtime.specs.Clock.{happening}
 use Rattle.mon_notes.specs.Comments.{comment_of}
 use Rattle.mon_inventory.specs.declared.records.ObjectSpec.{ObjectSpec}
-use Rattle.mon_inventory.specs.Configuration.{Configuration, tells_by_clock}
+use Rattle.mon_inventory.specs.Configuration.{Configuration, tells_by_clock, recovers_the_told}
 use Rattle.mon_engine.specs.declared.notices.Occasion.TheVariants.{Check, Clock}
 use Rattle.mon_engine.specs.declared.object.Kind.{Kind}
 use Rattle.mon_engine.specs.declared.notice.Notice.{Notice}
@@ -32,10 +32,12 @@ use Rattle.mon_engine.specs.Results.{is_taken, is_hard_problem, started_all, wit
 use Rattle.mon_engine.specs.Acknowledgements.{acknowledge, told_acknowledged, acknowledged_by, after_acknowledge, unacknowledged_by, after_unacknowledge, after_del_comment, has_comment_by}
 use Rattle.mon_engine.specs.Downtimes.{with_records, has_downtime_by, told_cancelled, after_cancel, after_del_downtime}
 use Rattle.mon_engine.specs.Clock.{event_notice, with_event, fired, drained, advanced}
+use Rattle.mon_engine.specs.Ends.{end_notice, is_end_due_of, is_news, owed_at, owes, owing, told_end, told_end_of, told_ends, told_ends_among, with_owed}
+use Rattle.mon_notify.specs.Ends.{missed}
 use Rattle.mon_engine.specs.ByClock.{told_among, told_by_clock}
 use Rattle.mon_engine.specs.Effects as acts
 use Rattle.mon_engine.specs.Effects.{Act, act, named}
-use Rattle.mon_engine.specs.Step.{act_on, settled, effect, counted, closed_at, acted, step}
+use Rattle.mon_engine.specs.Step.{act_on, settled, effect, counted, closed_at, acted, step, stood}
 use Rattle.mon_engine.specs.Telling.{with_lists, forgotten, TheListsAreNotRead}
 
 -- a world with what was listed and counted before it
@@ -259,9 +261,55 @@ module _ (rs : List Rejection) (ns : List Notice) (many earlier : ℕ) where
       by_option true = each w (range_with_len 0 (length inv.objects))
       by_option false = refl
 
+  end_behind : (inv : Configuration) (w : World) (object : ℕ) → told_end inv (behind rs ns many earlier w) object ≡ behind rs ns many earlier (told_end inv w object)
+  unfolding told_end
+  end_behind inv w object = by_object (slice_get inv.objects object) (slice_get w.objects object)
+    where
+      by_due : (due news : Bool) (o : Object) (n : Option Notice) (left : List ℕ) → (if due then (if news then with_owed (told (behind rs ns many earlier w) n) object left else with_owed (behind rs ns many earlier w) object []) else behind rs ns many earlier w)
+          ≡ behind rs ns many earlier (if due then (if news then with_owed (told w n) object left else with_owed w object []) else w)
+      by_due true true o n left = ap (λ (v : World). record v { owed = (with_owed w object left).owed }) (told_behind w n)
+      by_due true false o n left = refl
+      by_due false news o n left = refl
+
+      by_object : (spec : Option ObjectSpec) (o : Option Object) → of_object (behind rs ns many earlier w) (told_end_of inv (behind rs ns many earlier w) object) spec o ≡ behind rs ns many earlier (of_object w (told_end_of inv w object) spec o)
+      by_object None o = refl
+      by_object (Some spec) None = refl
+      by_object (Some spec) (Some o) = by_due (is_end_due_of inv w object spec o) (is_news w.clock o) o (end_notice inv w object o (owed_at w object)) (missed inv w.contacts object (owed_at w object).contacts)
+
+  ends_behind : (inv : Configuration) (w : World) → told_ends inv (behind rs ns many earlier w) ≡ behind rs ns many earlier (told_ends inv w)
+  unfolding told_ends
+  ends_behind inv w = by_option (recovers_the_told inv)
+    where
+      each : (v : World) (ks : List ℕ) → fold (told_end inv) (behind rs ns many earlier v) ks ≡ behind rs ns many earlier (fold (told_end inv) v ks)
+      each v [] = refl
+      each v (k ∷ ks) = ap (λ (x : World). fold (told_end inv) x ks) (end_behind inv v k) ∙ each (told_end inv v k) ks
+
+      by_option : (b : Bool) → (if b then told_ends_among inv (behind rs ns many earlier w) (length inv.objects) else behind rs ns many earlier w) ≡ behind rs ns many earlier (if b then told_ends_among inv w (length inv.objects) else w)
+      by_option true = each w (range_with_len 0 (length inv.objects))
+      by_option false = refl
+
+  owing_behind : (inv : Configuration) (before : List Notice) (v : World) → owing inv (length (ns ++ before)) (behind rs ns many earlier v) ≡ behind rs ns many earlier (owing inv (length before) v)
+  unfolding owing
+  owing_behind inv before v = by_option (recovers_the_told inv)
+    where
+      dropped : drop (length (ns ++ before)) (ns ++ v.notices) ≡ drop (length before) v.notices
+      dropped = ap (λ (n : ℕ). drop n (ns ++ v.notices)) (length-append ns before) ∙ drop-append-add ns v.notices (length before)
+
+      by_option : (b : Bool) → (if b then record (behind rs ns many earlier v) { owed = fold (owes inv) v.owed (drop (length (ns ++ before)) (ns ++ v.notices)) } else behind rs ns many earlier v)
+          ≡ behind rs ns many earlier (if b then record v { owed = fold (owes inv) v.owed (drop (length before) v.notices) } else v)
+      by_option true = ap (λ (xs : List Notice). record (behind rs ns many earlier v) { owed = fold (owes inv) v.owed xs }) dropped
+      by_option false = refl
+
   pub step_behind : (inv : Configuration) (w : World) (e : Entry) → step inv (behind rs ns many earlier w) e ≡ and_behind rs ns many earlier (step inv w e)
   unfolding step
-  step_behind inv w e = ap (λ (p : World × Outcome). paired (told_by_clock inv p.0) p.1) (acted_behind inv w e) ∙ ap (λ (v : World). paired v (acted inv w e).1) (clock_behind inv (acted inv w e).0)
+  step_behind inv w e =
+      let v : World = (acted inv w e).0 in
+      let o : Outcome = (acted inv w e).1 in
+      let n : ℕ = length (ns ++ w.notices) in
+      ap (λ (p : World × Outcome). paired (owing inv n (stood inv p.0)) p.1) (acted_behind inv w e)
+      ∙ ap (λ (x : World). paired (owing inv n (told_by_clock inv x)) o) (ends_behind inv v)
+      ∙ ap (λ (x : World). paired (owing inv n x) o) (clock_behind inv (told_ends inv v))
+      ∙ ap (λ (x : World). paired x o) (owing_behind inv w.notices (stood inv v))
 
 -- behind lists alone nothing is counted
 uncounted : (rs : List Rejection) (ns : List Notice) (w : World) → with_lists rs ns w ≡ behind rs ns 0 0 w

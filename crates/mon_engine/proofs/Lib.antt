@@ -38,9 +38,14 @@ pub mod FirstLemmas
 pub mod UnlessLemmas
 pub mod WithheldLemmas
 pub mod ByClockLemmas
+pub mod EndLemmas
 pub mod WakeLemmas
 pub mod RecoveryLemmas
 pub mod RepeatLemmas
+pub mod StepLemmas
+pub mod OwedLemmas
+pub mod HeardLemmas
+pub mod StillOwedLemmas
 pub mod SuppressedLemmas
 pub mod OnceLemmas
 pub mod LaterLemmas

@@ -3,8 +3,9 @@ use Rattle.std.proofs.Common.{◌≡◌, ℕ, zero, suc, ◌+◌, ◌<◌, ◌�
 use Rattle.std.specs.Prelude.{All, Contains, filter}
 use Rattle.std.specs.List.{flat_map}
 use Rattle.std.proofs.lemmas.List.{at_drop_more, at_drop_all, length-set, map_more}
-use Rattle.std.proofs.lemmas.List.Elements.{All-nil, All-head, All-tail, All-append}
+use Rattle.std.proofs.lemmas.List.Elements.{All-nil, All-head, All-tail, All-append, All-set, All-get_or}
 use Rattle.mon_engine.specs.Places.{changed_at, change_to, changed_each}
+use Rattle.std.proofs.lemmas.Option.{get_or_from_slice_get, slice_get_within}
 
 -- what holds of each part holds of all
 pub All-flat_map : {X Y : Type 0} (P : Y → Type 0) (f : X → List Y) (xs : List X) → All (λ x. All P (f x)) xs → All P (flat_map f xs)
@@ -91,6 +92,14 @@ length-changed_at {A = A} xs k f = by_old (slice_get xs k)
     by_old : (o : Option A) → length (change_to xs k f o) ≡ length xs
     by_old None = refl
     by_old (Some x) = length-set xs k (f x)
+
+-- what holds of all holds of all with one changed, where the change keeps it
+pub All-changed_at : {A : Type 0} (P : A → Type 0) (xs : List A) (k : ℕ) (f : A → A) → ((a : A) → slice_get xs k ≡ Some a → P a → P (f a)) → All P xs → All P (changed_at xs k f)
+All-changed_at {A = A} P xs k f keeps all = by_old (slice_get xs k) refl
+  where
+    by_old : (o : Option A) → slice_get xs k ≡ o → All P (change_to xs k f o)
+    by_old None at = all
+    by_old (Some x) at = All-set P xs k (f x) (keeps x at (subst P (get_or_from_slice_get xs k x x at) (All-get_or P xs k x (slice_get_within xs k x at) all))) all
 
 -- ---- one place after another
 

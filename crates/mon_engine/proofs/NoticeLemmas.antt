@@ -59,6 +59,10 @@ someone_as inv s contacts within known = by_someone (nat_lt 0 (length contacts))
     by_someone true = All-cons (IsAs inv s.word s.object) (record { subject = s; contacts = contacts }) [] is (All-nil (IsAs inv s.word s.object))
     by_someone false = All-nil (IsAs inv s.word s.object)
 
+-- a notice to contacts of the inventory about an object of it
+pub to_someone_sound : (inv : Configuration) (s : Subject) (contacts : List ℕ) → s.object < length inv.objects → All (λ c. c < length inv.contacts) contacts → IfAny (IsNoticeOf inv) (to_someone s contacts)
+to_someone_sound inv s contacts within known = sound_as (to_someone s contacts) (someone_as inv s contacts within known)
+
 addressed_as : (inv : Configuration) (switches : List ContactSwitch) (s : Subject) (l : Letter) (escalate : Bool) → s.object < length inv.objects → IfAny (IsAs inv s.word s.object) (addressed inv switches s l escalate)
 unfolding addressed recipients
 addressed_as inv switches s l escalate within = someone_as inv s _ within (told_within (is_told inv switches s.object s.number l escalate) (length inv.contacts))

@@ -19,7 +19,8 @@ use Rattle.mon_engine.specs.Effects.{Act, act}
 use Rattle.mon_engine.specs.Clock.{advanced}
 use Rattle.mon_engine.specs.Laws.{moment_of}
 use Rattle.mon_engine.specs.Step.{counted}
-use Rattle.mon_engine.specs.NoticeLaws.{went_out, is_problem_word, OneProblemAnEntry}
+use Rattle.mon_engine.specs.Notices.{is_problem_word}
+use Rattle.mon_engine.specs.NoticeLaws.{went_out, OneProblemAnEntry}
 use Rattle.mon_engine.proofs.ActLemmas.{ok_is, acknowledge_cases, del_downtime_cases, noticed_cases, check_result_cases, act_leaves}
 use Rattle.mon_engine.proofs.CountLemmas.{count_none}
 use Rattle.mon_engine.proofs.EntryLemmas.{found, entry_cases}

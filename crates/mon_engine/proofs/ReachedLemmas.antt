@@ -1,14 +1,14 @@
 -- Whom a notice reaches: contacts of the object or of its escalations, whose switch is on, and who have its letter.
-use Rattle.std.proofs.Common.{◌≡◌, ◌⊎◌, inl, inr, ℕ, ◌+◌, Bool, true, false, ◌&&◌, ◌||◌, eqb, cond, if◌then◌else◌, nat_lt, List, [], ◌∷◌, ◌++◌, length, Option, Some, None, All, slice_get, refl, ap, sym, ◌∙◌, subst}
+use Rattle.std.proofs.Common.{◌≡◌, ◌⊎◌, inl, inr, ℕ, ◌+◌, Bool, true, false, ◌&&◌, ◌||◌, eqb, cond, if◌then◌else◌, nat_lt, List, [], ◌∷◌, ◌++◌, length, Option, Some, None, All, slice_get, refl, ap, sym, ◌∙◌, subst, not}
 use Rattle.std.specs.List.{filter, range_with_len}
-use Rattle.std.proofs.lemmas.Bool.{and_parts, eqb-true, or_cases, or_right}
+use Rattle.std.proofs.lemmas.Bool.{and_parts, eqb-true, not-true, or_cases, or_right}
 use Rattle.std.proofs.lemmas.List.Elements.{All-weaker, filter_passes}
 use Rattle.std.proofs.lemmas.List.Folds.{list_any-append}
 use Rattle.std.proofs.lemmas.Option.{same_Some}
 use Rattle.mon_inventory.specs.declared.records.ContactSpec.{ContactSpec}
 use Rattle.mon_inventory.specs.declared.records.Escalation.{Escalation}
 use Rattle.mon_inventory.specs.declared.records.ObjectSpec.{ObjectSpec}
-use Rattle.mon_inventory.specs.Configuration.{Configuration}
+use Rattle.mon_inventory.specs.Configuration.{Configuration, recovers_the_told}
 use Rattle.mon_inventory.specs.Lookups.{is_escalation_of}
 use Rattle.mon_notify.specs.declared.contacts.ContactSwitch.{ContactSwitch}
 use Rattle.mon_notify.specs.declared.facts.Facts.{Facts}
@@ -170,7 +170,7 @@ pub record IsOpen (f : Facts) : Type 0 where
   pub depth : f.depth ≡ 0
   pub host_depth : f.host_depth ≡ 0
 
-opened : (f : Facts) → is_open f ≡ true → IsOpen f
+pub opened : (f : Facts) → is_open f ≡ true → IsOpen f
 opened f h =
     let host = and_parts (f.program_on && f.object_on && eqb f.depth 0) (eqb f.host_depth 0) h in
     let own = and_parts (f.program_on && f.object_on) (eqb f.depth 0) host.0 in
@@ -181,14 +181,21 @@ pub recovery_open : (inv : Configuration) (u : World) (object : ℕ) (hard : Boo
 unfolding recovery_notice
 recovery_open inv u object hard spec o n e =
     let f = facts inv u object spec o letter.R in
-    let may = passed (hard && recovery_viable f) (addressed inv u.contacts (subject_of u.clock words.Recovery object o o.number) letter.R true) n e in
-    opened f (and_parts (nat_lt 0 f.number) (is_open f) (and_parts (nat_lt 0 f.number && is_open f) f.letter_on (and_parts hard (recovery_viable f) may.0).1).0).1
+    let may = passed (hard && not (recovers_the_told inv) && recovery_viable f) (addressed inv u.contacts (subject_of u.clock words.Recovery object o o.number) letter.R true) n e in
+    opened f (and_parts (nat_lt 0 f.number) (is_open f) (and_parts (nat_lt 0 f.number && is_open f) f.letter_on (and_parts (hard && not (recovers_the_told inv)) (recovery_viable f) may.0).1).0).1
+
+pub recovery_off : (inv : Configuration) (u : World) (object : ℕ) (hard : Bool) (spec : ObjectSpec) (o : Object) (n : Notice) → recovery_notice inv u object hard spec o ≡ Some n → recovers_the_told inv ≡ false
+unfolding recovery_notice
+recovery_off inv u object hard spec o n e =
+    let f = facts inv u object spec o letter.R in
+    let may = passed (hard && not (recovers_the_told inv) && recovery_viable f) (addressed inv u.contacts (subject_of u.clock words.Recovery object o o.number) letter.R true) n e in
+    not-true (recovers_the_told inv) (and_parts hard (not (recovers_the_told inv)) (and_parts (hard && not (recovers_the_told inv)) (recovery_viable f) may.0).0).1
 
 pub recovery_plain : (inv : Configuration) (u : World) (object : ℕ) (hard : Bool) (spec : ObjectSpec) (o : Object) (n : Notice) → slice_get u.objects object ≡ Some o → recovery_notice inv u object hard spec o ≡ Some n → IsPlain inv u n
 unfolding recovery_notice
 recovery_plain inv u object hard spec o n at e =
     let s = subject_of u.clock words.Recovery object o o.number in
-    let may = passed (hard && recovery_viable (facts inv u object spec o letter.R)) (addressed inv u.contacts s letter.R true) n e in
+    let may = passed (hard && not (recovers_the_told inv) && recovery_viable (facts inv u object spec o letter.R)) (addressed inv u.contacts s letter.R true) n e in
     let on = recovery_open inv u object hard spec o n e in
     addressed_plain inv u s letter.R true n may.1 refl on.program_on (ap notifies at ∙ on.object_on)
 

@@ -7,7 +7,7 @@ use Rattle.mon_checks.specs.declared.transition.Change.{Change}
 use Rattle.mon_checks.specs.States.{change_by, recovers}
 use Rattle.mon_downtime.specs.Records.{depth_of}
 use Rattle.mon_inventory.specs.declared.records.ObjectSpec.{ObjectSpec}
-use Rattle.mon_inventory.specs.Configuration.{Configuration, passive_hosts_soft}
+use Rattle.mon_inventory.specs.Configuration.{Configuration, passive_hosts_soft, recovers_the_told}
 use Rattle.mon_notify.specs.declared.contacts.ContactSwitch.{ContactSwitch}
 use Rattle.mon_notify.specs.declared.letter.Letter.TheVariants as letter
 use Rattle.mon_notify.specs.Recipients.{recipients}
@@ -42,12 +42,12 @@ noticed_recovery inv u object change spec o known at recovered =
     ∙ ap (λ (p : Option Object). of_object u (noticed_by inv u object change) (Some spec) p) at
     ∙ ap (λ (b : Bool). if b then with_recovery u object (recovery_notice inv u object change.hard_recovery spec o) else (if eqb o.status.code 0 then u else with_problem u object (problem_notice inv u Check object spec o))) recovered
 
-recovery_goes_out : (inv : Configuration) (u : World) (object : ℕ) (hard : Bool) (spec : ObjectSpec) (o : Object) → hard ≡ true → recovery_viable (facts inv u object spec o letter.R) ≡ true → 0 < length (recipients inv u.contacts object o.number letter.R true)
+recovery_goes_out : (inv : Configuration) (u : World) (object : ℕ) (hard : Bool) (spec : ObjectSpec) (o : Object) → hard ≡ true → recovers_the_told inv ≡ false → recovery_viable (facts inv u object spec o letter.R) ≡ true → 0 < length (recipients inv u.contacts object o.number letter.R true)
     → recovery_notice inv u object hard spec o ≡ Some (record { subject = subject_of u.clock words.Recovery object o o.number; contacts = recipients inv u.contacts object o.number letter.R true })
 unfolding recovery_notice
-recovery_goes_out inv u object hard spec o is may someone =
+recovery_goes_out inv u object hard spec o is off may someone =
     let s = subject_of u.clock words.Recovery object o o.number in
-    ap (λ (b : Bool). if b then addressed inv u.contacts s letter.R true else None) (and_from hard (recovery_viable (facts inv u object spec o letter.R)) is may) ∙ addressed_some inv u.contacts s letter.R someone
+    ap (λ (b : Bool). if b then addressed inv u.contacts s letter.R true else None) (and_from (hard && not (recovers_the_told inv)) (recovery_viable (facts inv u object spec o letter.R)) (and_from hard (not (recovers_the_told inv)) is (not_from_false (recovers_the_told inv) off)) may) ∙ addressed_some inv u.contacts s letter.R someone
 
 taken_recovers : (inv : Configuration) (w : World) (e : Entry) (object : ℕ) (output : List ℕ) (spec : ObjectSpec) (o : Object) → slice_get (found inv w e).objects object ≡ Some o → IsRecoveryToTell inv w (moment_of w e) object spec o
     → Contains (went_out w (advanced inv (counted (after_taken inv (found inv w e) object 0 output spec o)) (moment_of w e))) (recovery_of inv w (moment_of w e) object o.number)
@@ -123,7 +123,7 @@ taken_recovers inv w e object output spec o at h =
         made c cs = record { subject = record { moment = c; word = words.Recovery; object = object; code = 0; number = o.number }; contacts = recipients inv cs object o.number letter.R true }
 
     out : recovery_notice inv u object (change_by o.status 0).hard_recovery spec o1 ≡ Some notice
-    out = recovery_goes_out inv u object (change_by o.status 0).hard_recovery spec o1 (and_from (recovers o.status 0) o.status.hard ended h.hard) may (subst (λ (n : Notice). 0 < length n.contacts) (sym is_it) h.someone)
+    out = recovery_goes_out inv u object (change_by o.status 0).hard_recovery spec o1 (and_from (recovers o.status 0) o.status.hard ended h.hard) h.without may (subst (λ (n : Notice). 0 < length n.contacts) (sym is_it) h.someone)
 
     added : b.notices ≡ u.notices ++ notice ∷ []
     added = ap (λ (x : World). x.notices) told ∙ ap (λ (n : Option Notice). (with_recovery u object n).notices) out

@@ -21,6 +21,7 @@ use Rattle.mon_engine.specs.declared.notices.Occasion.{Occasion}
 use Rattle.mon_engine.specs.declared.notices.Occasion.TheVariants.{Check, Clock}
 use Rattle.mon_engine.specs.declared.notice.Notice.{Notice}
 use Rattle.mon_engine.specs.declared.notice.Subject.{Subject}
+use Rattle.mon_engine.specs.declared.notice.Word.{Word}
 use Rattle.mon_engine.specs.declared.notice.Word.TheVariants as words
 use Rattle.mon_engine.specs.declared.object.Acknowledgement.TheVariants.{Unacknowledged}
 use Rattle.mon_engine.specs.declared.object.Object.{Object}
@@ -32,20 +33,22 @@ use Rattle.mon_engine.specs.Names.{target_of}
 use Rattle.mon_engine.specs.Places.{changed_at, changed_each}
 use Rattle.mon_engine.specs.Objects.{is_service, host_is_up, object_after, after_told, reset, custom_number, with_setting, with_acknowledgement, acknowledgement_of}
 use Rattle.mon_engine.specs.World.{World}
-use Rattle.mon_engine.specs.Notices.{addressed, problem_facts, subject_of, problem_notice, with_problem, after_custom}
+use Rattle.mon_engine.specs.Notices.{addressed, is_problem_word, problem_facts, subject_of, problem_notice, with_problem, after_custom}
 use Rattle.mon_engine.specs.Results.{with_result, with_started, after_taken}
 use Rattle.mon_engine.specs.Acknowledgements.{acknowledge}
 use Rattle.mon_engine.specs.ByClock.{told_by_clock}
+use Rattle.mon_engine.specs.Ends.{told_ends}
 use Rattle.mon_engine.specs.ByClockLaws.{ready_notice, ready_notices, TellsWhatIsReady}
 use Rattle.mon_engine.specs.Effects as acts
 use Rattle.mon_engine.specs.Effects.{Act, act, asked, asked_of, named}
 use Rattle.mon_engine.specs.Clock.{advanced}
 use Rattle.mon_engine.specs.Laws.{moment_of, AppliesOne}
 use Rattle.mon_engine.specs.Step.{counted, acted, step, meaning_from}
-use Rattle.mon_engine.specs.NoticeLaws.{went_out, is_volatile, IsVolatileResult, BeginsAnew, GoesOn, IsIntervalLater, NoProblemIsToldTwice, is_problem_word, is_problem_of, OneProblemAnObject}
+use Rattle.mon_engine.specs.NoticeLaws.{went_out, is_volatile, IsVolatileResult, BeginsAnew, GoesOn, IsIntervalLater, NoProblemIsToldTwice, is_problem_of, OneProblemAnObject}
 use Rattle.mon_engine.proofs.ActLemmas.{ok_is, acknowledge_cases, unacknowledge_cases, del_downtime_cases, started_leaves, noticed_when, check_result_cases, custom_cases, act_leaves}
-use Rattle.mon_engine.proofs.ByClockLemmas.{ready_says, due_again, viable_due, told_once, notices_more, clock_cases, clock_leaves, clock_object, clock_counts, clock_more}
+use Rattle.mon_engine.proofs.ByClockLemmas.{ready_says, due_again, viable_due, told_once, notices_more, clock_cases, clock_object, clock_counts, clock_more}
 use Rattle.mon_engine.proofs.CountLemmas.{count_none}
+use Rattle.mon_engine.proofs.EndLemmas.{IsRecovery, ends_leave, ends_more, ends_objects, step_clock, step_notices, step_objects}
 use Rattle.mon_engine.proofs.EntryLemmas.{found, found_clock, kept_objects, entry_cases}
 use Rattle.mon_engine.proofs.FirstLemmas.{code_after}
 use Rattle.mon_engine.proofs.ForgottenLemmas.{acted_grows}
@@ -195,19 +198,19 @@ all_problems each done inv w e = news_are each done inv w e (λ p n. n.subject.w
 -- ---- a PROBLEM of the object, whoever sends it
 
 -- sent at the clock, of an object that was among the first of these objects, and is left among the second
-record IsSentOf (ByItself : Type 0) (inv : Configuration) (before after : List Object) (clock : ℕ) (n : Notice) : Type 0 where
-  of : Object
-  at : slice_get before n.subject.object ≡ Some of
-  problem : n.subject.code ≢ 0
-  moment : n.subject.moment ≡ clock
-  number : n.subject.number ≡ of.number + 1
-  due : IsDueTo ByItself inv n.subject of clock
-  left : Object
-  there : slice_get after n.subject.object ≡ Some left
-  code : left.status.code ≡ n.subject.code
-  notified : left.notified ≡ Some n.subject.code
-  last : left.last ≡ Some clock
-  next : left.number ≡ of.number + 1
+pub record IsSentOf (ByItself : Type 0) (inv : Configuration) (before after : List Object) (clock : ℕ) (n : Notice) : Type 0 where
+  pub of : Object
+  pub at : slice_get before n.subject.object ≡ Some of
+  pub problem : n.subject.code ≢ 0
+  pub moment : n.subject.moment ≡ clock
+  pub number : n.subject.number ≡ of.number + 1
+  pub due : IsDueTo ByItself inv n.subject of clock
+  pub left : Object
+  pub there : slice_get after n.subject.object ≡ Some left
+  pub code : left.status.code ≡ n.subject.code
+  pub notified : left.notified ≡ Some n.subject.code
+  pub last : left.last ≡ Some clock
+  pub next : left.number ≡ of.number + 1
 
 sent_by_act : (inv : Configuration) (w : World) (e : Entry) (left : World × Outcome) (n : Notice) → IsProblemOn inv w e left n → IsSentOf (IsVolatileResult inv n.subject.object e left.1) inv w.objects left.0.objects (found inv w e).clock n
 sent_by_act inv w e left n h = record {
@@ -249,27 +252,39 @@ sent_by_clock inv w v k n tells is =
     })
 
 -- an entry sends it, or the clock after what the entry does
-abbrev IsSentWith : Configuration → World → Entry → Notice → Type 0
+abbrev pub IsSentWith : Configuration → World → Entry → Notice → Type 0
 IsSentWith inv w e n = IsSentOf (IsVolatileResult inv n.subject.object e (acted inv w e).1) inv w.objects (acted inv w e).0.objects (found inv w e).clock n
     ⊎ IsSentOf ⊥ inv (acted inv w e).0.objects (step inv w e).0.objects (acted inv w e).0.clock n
 
-all_sent_with : (each : WhatIsDueHappens) (done : NothingIsLeft) (inv : Configuration) (w : World) (e : Entry) → All (λ n. n.subject.word ≡ words.Problem → IsSentWith inv w e n) (went_out w (step inv w e).0)
-unfolding step
-all_sent_with each done inv w e = clock_cases inv v
-    (λ (u : World). u ≡ told_by_clock inv v → All (λ n. n.subject.word ≡ words.Problem → IsSentOf (IsVolatileResult inv n.subject.object e (acted inv w e).1) inv w.objects v.objects (found inv w e).clock n ⊎ IsSentOf ⊥ inv v.objects (told_by_clock inv v).objects v.clock n) (went_out w u))
-    (λ is. more_went Sent w v by_act)
-    (λ u tells is. more_went Sent w u (more_after Sent w.notices v.notices u.notices by_act
-    (clock_more inv v u Sent tells (λ k n ready word. inr (subst (λ (x : World). IsSentOf ⊥ inv v.objects x.objects v.clock n) is (sent_by_clock inv v u k n tells ready))))))
-    refl
+-- the same lists of objects and the same clock, by other names
+sent_as : (ByItself : Type 0) (inv : Configuration) (before was after now : List Object) (clock time : ℕ) (n : Notice) → before ≡ was → after ≡ now → clock ≡ time → IsSentOf ByItself inv before after clock n → IsSentOf ByItself inv was now time n
+sent_as ByItself inv before was after now clock time n first last at sent =
+    subst (λ (c : ℕ). IsSentOf ByItself inv was now c n) at (subst (λ (os : List Object). IsSentOf ByItself inv was os clock n) last (subst (λ (os : List Object). IsSentOf ByItself inv os after clock n) first sent))
+
+pub all_sent_with : (each : WhatIsDueHappens) (done : NothingIsLeft) (inv : Configuration) (w : World) (e : Entry) → All (λ n. n.subject.word ≡ words.Problem → IsSentWith inv w e n) (went_out w (step inv w e).0)
+all_sent_with each done inv w e = more_went Sent w (step inv w e).0 (subst (More Sent w.notices) (sym (step_notices inv w e)) by_clock)
   where
     v : World
     v = (acted inv w e).0
 
+    m : World
+    m = told_ends inv v
+
     Sent : Notice → Type 0
-    Sent n = n.subject.word ≡ words.Problem → IsSentOf (IsVolatileResult inv n.subject.object e (acted inv w e).1) inv w.objects v.objects (found inv w e).clock n ⊎ IsSentOf ⊥ inv v.objects (told_by_clock inv v).objects v.clock n
+    Sent n = n.subject.word ≡ words.Problem → IsSentWith inv w e n
 
     by_act : More Sent w.notices v.notices
     by_act = (went_out w v, acted_grows inv w e, All-weaker (λ n. n.subject.word ≡ words.Problem → IsProblemOn inv w e (acted inv w e) n) Sent (λ n h word. inl (sent_by_act inv w e (acted inv w e) n (h word))) (went_out w v) (all_problems each done inv w e))
+
+    before : More Sent w.notices m.notices
+    before = more_after Sent w.notices v.notices m.notices by_act (more_weaker IsRecovery Sent v.notices m.notices (λ n is word. absurd (let same = sym is ∙ word in cc)) (ends_more inv v))
+
+    sent : (k : ℕ) (n : Notice) → TellsWhatIsReady inv m (told_by_clock inv m) → ready_notice inv m k ≡ Some n → IsSentWith inv w e n
+    sent k n tells ready = inr (sent_as ⊥ inv m.objects v.objects (told_by_clock inv m).objects (step inv w e).0.objects m.clock v.clock n (ends_objects inv v) (sym (step_objects inv w e)) (ap (λ (x : World). x.clock) (ends_leave inv v)) (sent_by_clock inv m (told_by_clock inv m) k n tells ready))
+
+    by_clock : More Sent w.notices (told_by_clock inv m).notices
+    by_clock = clock_cases inv m (λ (u : World). u ≡ told_by_clock inv m → More Sent w.notices u.notices) (λ is. before)
+        (λ u tells is. more_after Sent w.notices m.notices u.notices before (clock_more inv m u Sent tells (λ k n ready word. sent k n (subst (TellsWhatIsReady inv m) is tells) ready))) refl
 
 -- ---- what an object keeps of its last PROBLEM
 
@@ -505,32 +520,36 @@ clock_told inv w object code m h = elim (clock_object inv w object h.of h.there)
       })
 ]
 
+-- told of by what an entry does, it is told of after the entry
+still_told : (inv : Configuration) (w : World) (e : Entry) (object code m : ℕ) → IsTold (acted inv w e).0.objects object code m → IsTold (step inv w e).0.objects object code m
+still_told inv w e object code m h =
+    let v : World = (acted inv w e).0 in
+    subst (λ (os : List Object). IsTold os object code m) (sym (step_objects inv w e)) (clock_told inv (told_ends inv v) object code m (subst (λ (os : List Object). IsTold os object code m) (sym (ends_objects inv v)) h))
+
 entry_told : (inv : Configuration) (w : World) (e : Entry) (object code m : ℕ) → m ≤ w.clock → (AppliesOne inv e (step inv w e).1 (BeginsAnew object code) → ⊥) → IsTold w.objects object code m → IsTold (step inv w e).0.objects object code m
 unfolding step
-entry_told inv w e object code m from goes h = clock_told inv (acted inv w e).0 object code m (acted_told inv w e object code m from goes h)
+entry_told inv w e object code m from goes h = still_told inv w e object code m (acted_told inv w e object code m from goes h)
 
 -- the clock after an entry
-step_clock : (inv : Configuration) (w : World) (e : Entry) → (step inv w e).0.clock ≡ moment_of w e
-unfolding step
-step_clock inv w e = ap (λ (v : World). v.clock) (clock_leaves inv (acted inv w e).0) ∙ acted_clock inv w e
+pub step_moment : (inv : Configuration) (w : World) (e : Entry) → (step inv w e).0.clock ≡ moment_of w e
+step_moment inv w e = step_clock inv w e ∙ acted_clock inv w e
 
 -- the problem goes on up to the last of these entries, and with it
 entries_told : (inv : Configuration) (object code m : ℕ) (w : World) (es : List Entry) (last : Entry) → m ≤ w.clock → GoesOn inv object code w (es ++ last ∷ []) → IsTold w.objects object code m
     → (m ≤ (meaning_from inv w es).clock) × IsTold (meaning_from inv w es).objects object code m × (AppliesOne inv last (step inv (meaning_from inv w es) last).1 (BeginsAnew object code) → ⊥)
 unfolding meaning_from
 entries_told inv object code m w [] last from goes h = (from, h, goes.0)
-entries_told inv object code m w (e ∷ es) last from goes h = entries_told inv object code m (step inv w e).0 es last (omega (arith, from, step_clock inv w e)) goes.1 (entry_told inv w e object code m from goes.0 h)
+entries_told inv object code m w (e ∷ es) last from goes h = entries_told inv object code m (step inv w e).0 es last (omega (arith, from, step_moment inv w e)) goes.1 (entry_told inv w e object code m from goes.0 h)
 
 -- an object is told of once its notice went out with an entry
 told_with : (inv : Configuration) (w : World) (e : Entry) (n : Notice) → IsSentWith inv w e n → (n.subject.moment ≤ (step inv w e).0.clock) × IsTold (step inv w e).0.objects n.subject.object n.subject.code n.subject.moment
-unfolding step
 told_with inv w e n (inl sent) = (
-  (let at = sent.moment in omega (arith, at, found_clock inv w e, step_clock inv w e)),
-  clock_told inv (acted inv w e).0 n.subject.object n.subject.code n.subject.moment (first_told _ inv w.objects (acted inv w e).0.objects (found inv w e).clock n sent),
+  (let at = sent.moment in omega (arith, at, found_clock inv w e, step_moment inv w e)),
+  still_told inv w e n.subject.object n.subject.code n.subject.moment (first_told _ inv w.objects (acted inv w e).0.objects (found inv w e).clock n sent),
 )
 told_with inv w e n (inr sent) = (
-  (let at = sent.moment in omega (arith, at, acted_clock inv w e, step_clock inv w e)),
-  first_told ⊥ inv (acted inv w e).0.objects (told_by_clock inv (acted inv w e).0).objects (acted inv w e).0.clock n sent,
+  (let at = sent.moment in omega (arith, at, acted_clock inv w e, step_moment inv w e)),
+  first_told ⊥ inv (acted inv w e).0.objects (step inv w e).0.objects (acted inv w e).0.clock n sent,
 )
 
 -- and a further notice with a later entry comes the interval later, or with a result of a volatile service
@@ -538,7 +557,7 @@ later_with : (inv : Configuration) (w : World) (e : Entry) (first : Subject) (n 
     → (AppliesOne inv e (step inv w e).1 (BeginsAnew n.subject.object n.subject.code) → ⊥) → IsSentWith inv w e n → IsIntervalLater inv n.subject.object n.subject.code first n.subject ⊎ IsVolatileResult inv n.subject.object e (step inv w e).1
 unfolding step
 later_with inv w e first n from told goes (inl sent) = second_later _ inv w.objects (acted inv w e).0.objects (found inv w e).clock first n told sent
-later_with inv w e first n from told goes (inr sent) = elim (second_later ⊥ inv (acted inv w e).0.objects (told_by_clock inv (acted inv w e).0).objects (acted inv w e).0.clock first n
+later_with inv w e first n from told goes (inr sent) = elim (second_later ⊥ inv (acted inv w e).0.objects (step inv w e).0.objects (acted inv w e).0.clock first n
     (acted_told inv w e n.subject.object n.subject.code first.moment from goes told) sent) [
       | inl later ↦ inl later
       | inr never ↦ absurd never
@@ -651,37 +670,57 @@ module _ (inv : Configuration) (v : World) (object : ℕ) where
           let next = sent.next in
           told_once inv v object ready.0 sent.left ready.2 there (omega (arith, next)) (sent.notified ∙ ap (λ (c : ℕ). Some c) (sym sent.code)) (sent.last ∙ ap (λ (c : ℕ). Some c) (sym now))
 
+-- the notices of ends are of no problem
+none_of_ends : (object : ℕ) (ns : List Notice) → All IsRecovery ns → sent_of object ns ≡ 0
+none_of_ends object ns h = count_none (is_problem_of object) ns (All-weaker IsRecovery (λ n. is_problem_of object n ≡ false) (λ n is. ap (λ (word : Word). is_problem_word word && eqb n.subject.object object) is) ns h)
+
 pub one_problem_an_object : (each : WhatIsDueHappens) (done : NothingIsLeft) → OneProblemAnObject
-unfolding step
-one_problem_an_object each done inv w e object = clock_cases inv v (λ (u : World). sent_of object (went_out w u) ≤ 1) of_act
-    (λ u tells. (let all : went_out w u ≡ went_out w v ++ ready_notices inv v (length inv.objects) =
-    ap (drop (length w.notices)) (ap (λ (x : World). x.notices) tells.same ∙ ap (λ (x : List Notice). x ++ ready_notices inv v (length inv.objects)) (acted_grows inv w e) ∙ append_assoc w.notices (went_out w v) (ready_notices inv v (length inv.objects)))
-    ∙ drop_front w.notices (went_out w v ++ ready_notices inv v (length inv.objects)) in
-    subst (λ (ns : List Notice). sent_of object ns ≤ 1) (sym all) (both (is_some (ready_notice inv v object)) refl)))
+one_problem_an_object each done inv w e object = subst (λ (ns : List Notice). sent_of object (drop (length w.notices) ns) ≤ 1) (sym (step_notices inv w e)) (clock_cases inv m (λ (u : World). sent_of object (went_out w u) ≤ 1)
+    (let some = of_act in let is = ap (sent_of object) went_before ∙ sent_join object (went_out w v) ends.0 in let none = none_of_ends object ends.0 ends.2 in omega (arith, some, is, none))
+    (λ u tells. (let all : went_out w u ≡ (went_out w v ++ ends.0) ++ ready_notices inv m (length inv.objects) =
+    ap (drop (length w.notices)) (ap (λ (x : World). x.notices) tells.same ∙ ap (λ (x : List Notice). x ++ ready_notices inv m (length inv.objects)) before ∙ append_assoc w.notices (went_out w v ++ ends.0) (ready_notices inv m (length inv.objects)))
+    ∙ drop_front w.notices ((went_out w v ++ ends.0) ++ ready_notices inv m (length inv.objects)) in
+    subst (λ (ns : List Notice). sent_of object ns ≤ 1) (sym all) (both (is_some (ready_notice inv m object)) refl))))
   where
     v : World
     v = (acted inv w e).0
 
+    m : World
+    m = told_ends inv v
+
+    ends : More IsRecovery v.notices m.notices
+    ends = ends_more inv v
+
+    before : m.notices ≡ w.notices ++ (went_out w v ++ ends.0)
+    before = ends.1 ∙ ap (λ (x : List Notice). x ++ ends.0) (acted_grows inv w e) ∙ append_assoc w.notices (went_out w v) ends.0
+
+    went_before : went_out w m ≡ went_out w v ++ ends.0
+    went_before = ap (drop (length w.notices)) before ∙ drop_front w.notices (went_out w v ++ ends.0)
+
     of_act : sent_of object (went_out w v) ≤ 1
     of_act = (let some = fewer object (went_out w v) in let one = one_problem_an_entry inv w e in omega (arith, some, one))
 
-    both : (b : Bool) → is_some (ready_notice inv v object) ≡ b → sent_of object (went_out w v ++ ready_notices inv v (length inv.objects)) ≤ 1
+    both : (b : Bool) → is_some (ready_notice inv m object) ≡ b → sent_of object ((went_out w v ++ ends.0) ++ ready_notices inv m (length inv.objects)) ≤ 1
     both false none =
-        let sum = sent_join object (went_out w v) (ready_notices inv v (length inv.objects)) in
-        let clock = by_clock_at_most inv v object (length inv.objects) in
+        let sum = sent_join object (went_out w v ++ ends.0) (ready_notices inv m (length inv.objects)) in
+        let first = sent_join object (went_out w v) ends.0 in
+        let ended = none_of_ends object ends.0 ends.2 in
+        let clock = by_clock_at_most inv m object (length inv.objects) in
         let zero_more = ap (λ (b : Bool). cond {A = ℕ} b 1 0) none in
         let act = of_act in
-        omega (arith, sum, clock, zero_more, act)
+        omega (arith, sum, first, ended, clock, zero_more, act)
     both true ready =
-        let sum = sent_join object (went_out w v) (ready_notices inv v (length inv.objects)) in
-        let clock = by_clock_at_most inv v object (length inv.objects) in
+        let sum = sent_join object (went_out w v ++ ends.0) (ready_notices inv m (length inv.objects)) in
+        let first = sent_join object (went_out w v) ends.0 in
+        let ended = none_of_ends object ends.0 ends.2 in
+        let clock = by_clock_at_most inv m object (length inv.objects) in
         let one_more = ap (λ (b : Bool). cond {A = ℕ} b 1 0) ready in
         let act = count_none (is_problem_of object) (went_out w v) (All-weaker (λ n. n.subject.word ≡ words.Problem → IsProblemOn inv w e (acted inv w e) n) (λ n. is_problem_of object n ≡ false) (λ n h. not_of n h (is_problem_of object n) refl) (went_out w v) (all_problems each done inv w e)) in
-        omega (arith, sum, clock, one_more, act)
+        omega (arith, sum, first, ended, clock, one_more, act)
       where
         not_of : (n : Notice) → (n.subject.word ≡ words.Problem → IsProblemOn inv w e (acted inv w e) n) → (b : Bool) → is_problem_of object n ≡ b → b ≡ false
         not_of n h false is = refl
         not_of n h true is =
             let parts = and_parts (is_problem_word n.subject.word) (eqb n.subject.object object) is in
-            let none = not_again inv v object _ w.objects (found inv w e).clock n (acted_clock inv w e ∙ sym (found_clock inv w e)) (eqb-true n.subject.object object parts.1) (sent_by_act inv w e (acted inv w e) n (h (problem_word n.subject.word parts.0))) in
+            let none = not_again inv m object _ w.objects (found inv w e).clock n (ap (λ (x : World). x.clock) (ends_leave inv v) ∙ acted_clock inv w e ∙ sym (found_clock inv w e)) (eqb-true n.subject.object object parts.1) (sent_as _ inv w.objects w.objects v.objects m.objects (found inv w e).clock (found inv w e).clock n refl (sym (ends_objects inv v)) refl (sent_by_act inv w e (acted inv w e) n (h (problem_word n.subject.word parts.0)))) in
             absurd (true≢false (sym ready ∙ ap is_some none))

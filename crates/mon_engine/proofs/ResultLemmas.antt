@@ -48,8 +48,8 @@ result_world inv n m w object spec o code output sound h at = by_removed (result
     states = result_states inv m w.objects object spec w.clock code output (host_is_up w.objects spec) (passive_hosts_soft inv) sound h.states at
 
     by_removed : (b : Bool) → IsWorldAt inv n m (record w { objects = after; notes = if b then without_acknowledged object w.notes else w.notes })
-    by_removed true = with_states inv n m m (record w { notes = without_acknowledged object w.notes }) after (fewer_world inv n m w (λ c. not ((eqb c.object object) && c.ack && not c.persistent)) h) states
-    by_removed false = with_states inv n m m w after h states
+    by_removed true = with_states inv n m m (record w { notes = without_acknowledged object w.notes }) after (omega arith) (fewer_world inv n m w (λ c. not ((eqb c.object object) && c.ack && not c.persistent)) h) states
+    by_removed false = with_states inv n m m w after (omega arith) h states
 
 -- the flexible downtimes that start
 started_world : (inv : Configuration) (n m : ℕ) (w : World) (object : ℕ) → IsWorldAt inv n m w → Reaches inv n m w (started_all inv w object)
@@ -77,14 +77,14 @@ noticed_world inv n m w object change h = noticed_cases (Reaches inv n (m + 1) w
     (λ spec o known at. (let x = recovery_notice inv w object change.hard_recovery spec o in
     let sound = sound_as x (recovery_notice_as inv w object change.hard_recovery spec o (slice_get_within inv.objects object spec known)) in
     record {
-      world = with_states inv n m (m + 1) (told w x) _ (with_more_notices inv n m w _ h sound)
+      world = with_states inv n m (m + 1) (told w x) _ (omega arith) (with_more_notices inv n m w _ h sound)
           (changed_states m (m + 1) inv.objects w.objects object reset (omega arith) h.states (λ spec o a s. same_status spec o _ refl refl s) (λ o few. omega arith));
       entries = refl;
       before = refl;
     }))
     (λ spec o known at n1 e. (let sound = sound_as _ (problem_notice_as inv w Check object spec o (slice_get_within inv.objects object spec known)) in
     record {
-      world = with_states inv n m (m + 1) (told w (Some n1)) _ (with_more_notices inv n m w _ h (subst (IfAny (IsNoticeOf inv)) e sound))
+      world = with_states inv n m (m + 1) (told w (Some n1)) _ (omega arith) (with_more_notices inv n m w _ h (subst (IfAny (IsNoticeOf inv)) e sound))
           (changed_states m (m + 1) inv.objects w.objects object (after_told w.clock) (omega arith) h.states (λ spec o a s. same_status spec o _ refl refl s) (λ o few. omega (arith, few)));
       entries = refl;
       before = refl;

@@ -18,10 +18,10 @@ use Rattle.mon_engine.specs.Sound.{ever}
 use Rattle.mon_engine.specs.Saved.{going_on}
 use Rattle.mon_engine.specs.SavedLaws.{resumed, TheCountsAreNotRead, EachEntryIsCounted, GoingOnTwiceIsOnce, GoingOnMeansTheSame, GoingOnTellsTheSame, PartsMeanTheSame, PartsTellTheSame}
 use Rattle.mon_engine.proofs.ActLemmas.{act_leaves, check_result_cases, noticed_leaves, started_leaves}
-use Rattle.mon_engine.proofs.ByClockLemmas.{clock_leaves}
 use Rattle.mon_engine.proofs.EntryLemmas.{entry_cases, found, advanced_leaves}
 use Rattle.mon_engine.proofs.ForgottenLemmas.{step_behind, the_lists_are_not_read}
 use Rattle.mon_engine.proofs.TellingLemmas.{forgetting_tells_the_same}
+use Rattle.mon_engine.proofs.EndLemmas.{step_leaves}
 
 -- ---- how many there were
 
@@ -53,9 +53,8 @@ acted_counts inv w e = entry_cases inv w e (λ p. IsCounted (w.entries + 1) w.be
 
 -- an entry is counted once
 pub step_counts : (inv : Configuration) (w : World) (e : Entry) → IsCounted (w.entries + 1) w.before (step inv w e).0
-unfolding step
 step_counts inv w e =
-    let leaves = clock_leaves inv (acted inv w e).0 in
+    let leaves = step_leaves inv w e in
     let counts = acted_counts inv w e in
     (ap (λ (x : World). x.entries) leaves ∙ counts.0, ap (λ (x : World). x.before) leaves ∙ counts.1)
 
@@ -161,7 +160,7 @@ forgetting_means_the_same inv w (e ∷ es) =
 pub resuming_means_the_same : (inv : Configuration) (w : World) (es : List Entry) → resumed (meaning_from inv (resumed w) es) ≡ resumed (meaning_from inv w es)
 resuming_means_the_same inv w es = ap forgotten (going_on_means_the_same inv (forgotten w) es).1 ∙ ap going_on (forgetting_means_the_same inv w es)
 
-meaning_joins : (inv : Configuration) (w : World) (first second : List Entry) → meaning_from inv w (first ++ second) ≡ meaning_from inv (meaning_from inv w first) second
+pub meaning_joins : (inv : Configuration) (w : World) (first second : List Entry) → meaning_from inv w (first ++ second) ≡ meaning_from inv (meaning_from inv w first) second
 unfolding meaning_from
 meaning_joins inv w [] second = refl
 meaning_joins inv w (e ∷ first) second = meaning_joins inv (step inv w e).0 first second

@@ -1,7 +1,7 @@
 -- What entries leave is such as commands say: each part of the world, after each act and as time goes on.
-use Rattle.std.proofs.Common.{◌≡◌, ℕ, ◌+◌, ◌<◌, ◌≤◌, Bool, true, false, not, ◌&&◌, eqb, if◌then◌else◌, List, [], ◌∷◌, ◌++◌, length, get_or, All, Option, Some, None, is_some, IfSome, Ok, slice_get, rules, refl, ap, sym, ◌∙◌, subst, arith}
-use Rattle.std.proofs.lemmas.List.Elements.{All-nil, All-cons, All-push, All-append, All-filter, All-set, All-get_or}
-use Rattle.std.proofs.lemmas.Option.{slice_get_within, slice_get-get_or, get_or_from_slice_get}
+use Rattle.std.proofs.Common.{◌≡◌, ℕ, ◌+◌, ◌<◌, ◌≤◌, Bool, true, false, not, ◌&&◌, eqb, if◌then◌else◌, List, [], ◌∷◌, ◌++◌, length, get_or, All, Some, None, is_some, IfSome, Ok, slice_get, rules, refl, ap, sym, ◌∙◌, subst, arith}
+use Rattle.std.proofs.lemmas.List.Elements.{All-nil, All-cons, All-push, All-append, All-filter}
+use Rattle.std.proofs.lemmas.Option.{slice_get-get_or}
 use Rattle.cmd_types.specs.declared.limits.TheConstants.{GREATEST_NUMBER}
 use Rattle.cmd_types.specs.Bytes.{Lacks}
 use Rattle.mon_checks.specs.declared.status.Status.{Status}
@@ -24,7 +24,7 @@ use Rattle.mon_engine.specs.declared.object.Object.{Object}
 use Rattle.mon_engine.specs.declared.object.Acknowledgement.TheVariants.{Unacknowledged}
 use Rattle.mon_engine.specs.declared.objects.Setting.{Setting}
 use Rattle.mon_engine.specs.declared.objects.Setting.TheVariants as settings
-use Rattle.mon_engine.specs.Places.{changed_at, change_to, changed_each}
+use Rattle.mon_engine.specs.Places.{changed_at, changed_each}
 use Rattle.mon_engine.specs.Objects.{host_is_up, is_of_hard_problem, object_after, result_unacknowledges, after_told, reset, custom_number, with_setting, with_acknowledgement, acknowledgement_of}
 use Rattle.mon_engine.specs.World.{World}
 use Rattle.mon_engine.specs.Notices.{noticed}
@@ -42,6 +42,7 @@ use Rattle.mon_engine.proofs.ByClockLemmas.{clock_cases}
 use Rattle.mon_engine.proofs.ClockLemmas.{drained_keeps}
 use Rattle.mon_engine.proofs.DowntimeLemmas.{changed_only, started_only, cancelled_only, fates_keep}
 use Rattle.mon_engine.proofs.TargetLemmas.{IsSaidSetting, IsSaidPlan, IsSaidAct}
+use Rattle.mon_engine.proofs.ListLemmas.{All-changed_at}
 
 -- ---- comments
 
@@ -138,19 +139,6 @@ module _ (stay : RecordsStayRecords) where
 
 -- ---- objects
 
--- one object changed
-changed_said : (os : List Object) (k : ℕ) (f : Object → Object) → ((o : Object) → slice_get os k ≡ Some o → IsSaidObject o → IsSaidObject (f o)) → All IsSaidObject os → All IsSaidObject (changed_at os k f)
-changed_said os k f keeps all = by_old (slice_get os k) refl
-  where
-    by_old : (o : Option Object) → slice_get os k ≡ o → All IsSaidObject (change_to os k f o)
-    by_old None e = all
-    by_old (Some o) e =
-        let here : IsSaidObject o = all_at o e in
-        All-set IsSaidObject os k (f o) (keeps o e here) all
-      where
-        all_at : (o : Object) → slice_get os k ≡ Some o → IsSaidObject o
-        all_at o e = subst IsSaidObject (get_or_from_slice_get os k o o e) (All-get_or IsSaidObject os k o (slice_get_within os k o e) all)
-
 four : (service : Bool) (code : ℕ) → IsCodeOf service code → code < 4
 four true code h = h
 four false code h = omega (arith, h)
@@ -206,18 +194,18 @@ setting_said (settings.Number n) o is h = record { code = h.code; last = h.last;
 each_said : (os : List Object) (ks : List ℕ) (s : Setting) → IsSaidSetting s → All IsSaidObject os → All IsSaidObject (changed_each os ks (with_setting s))
 unfolding changed_each
 each_said os [] s is h = h
-each_said os (k ∷ ks) s is h = each_said (changed_at os k (with_setting s)) ks s is (changed_said os k (with_setting s) (λ o at x. setting_said s o is x) h)
+each_said os (k ∷ ks) s is h = each_said (changed_at os k (with_setting s)) ks s is (All-changed_at IsSaidObject os k (with_setting s) (λ o at x. setting_said s o is x) h)
 
 noticed_said : (inv : Configuration) (w : World) (object : ℕ) (change : _) → w.clock ≤ GREATEST_NUMBER → All IsSaidObject w.objects → All IsSaidObject (noticed inv w object change).objects
 noticed_said inv w object change small h = noticed_cases (λ (x : World). All IsSaidObject x.objects) inv w object change h
-    (λ spec o known at. changed_said w.objects object reset (λ o at x. reset_said o x) h)
-    (λ spec o known at n e. changed_said w.objects object (after_told w.clock) (λ o at x. told_said w.clock o small x) h)
+    (λ spec o known at. All-changed_at IsSaidObject w.objects object reset (λ o at x. reset_said o x) h)
+    (λ spec o known at n e. All-changed_at IsSaidObject w.objects object (after_told w.clock) (λ o at x. told_said w.clock o small x) h)
 
 taken_said : (inv : Configuration) (n : ℕ) (w : World) (object code : ℕ) (output : List ℕ) (spec : ObjectSpec) (o : Object) → w.clock ≤ GREATEST_NUMBER → AreObjectStates n inv.objects w.objects → IsCodeAt inv object code → Lacks 10 output
     → slice_get inv.objects object ≡ Some spec → All IsSaidObject w.objects → All IsSaidObject (after_taken inv w object code output spec o).objects
 taken_said inv n w object code output spec o small states is line known h =
     let u = with_result inv w object spec o code output in
-    let first : All IsSaidObject u.objects = changed_said w.objects object (object_after w.clock code output (host_is_up w.objects spec) (passive_hosts_soft inv) spec.max)
+    let first : All IsSaidObject u.objects = All-changed_at IsSaidObject w.objects object (object_after w.clock code output (host_is_up w.objects spec) (passive_hosts_soft inv) spec.max)
     (λ x at said. result_said x w.clock code output _ _ _ small (subst (λ (b : Bool). IsCodeOf b code) (sym (states.each object spec x known at).kind) (is spec known)) line said) h in
     let started = started_leaves inv u object in
     noticed_said inv (with_started inv u object) object (change_by o.status code)
@@ -228,21 +216,21 @@ taken_said inv n w object code output spec o small states is line known h =
 pub objects_said : (inv : Configuration) (n : ℕ) (v w : World) (a : Act) → v.clock ≤ GREATEST_NUMBER → AreObjectStates n inv.objects v.objects → IsSaidAct inv a → act inv v a ≡ Ok w → All IsSaidObject v.objects → All IsSaidObject w.objects
 unfolding act
 objects_said inv n v w (acts.Acknowledge object sticky notify persistent author text) small states is e h =
-    let after = changed_said v.objects object (with_acknowledgement (acknowledgement_of sticky)) (λ o at x. acknowledgement_said (acknowledgement_of sticky) o x) h in
+    let after = All-changed_at IsSaidObject v.objects object (with_acknowledgement (acknowledgement_of sticky)) (λ o at x. acknowledgement_said (acknowledgement_of sticky) o x) h in
     acknowledge_cases (λ (x : World). All IsSaidObject x.objects) inv v w object sticky notify persistent author text e (λ o at problem. after) (λ o at problem. after)
 objects_said inv n v w (acts.RemoveAcknowledgement object) small states is e h =
     ok_is (λ (x : World). All IsSaidObject x.objects) _ _ w refl e
-    (unacknowledge_cases (λ (x : World). All IsSaidObject x.objects) v object h (λ o at acked. changed_said v.objects object (with_acknowledgement Unacknowledged) (λ o at x. acknowledgement_said Unacknowledged o x) h))
+    (unacknowledge_cases (λ (x : World). All IsSaidObject x.objects) v object h (λ o at acked. All-changed_at IsSaidObject v.objects object (with_acknowledgement Unacknowledged) (λ o at x. acknowledgement_said Unacknowledged o x) h))
 objects_said inv n v w (acts.CheckResult object code output) small states is e h =
     check_result_cases (λ (x : World). All IsSaidObject x.objects) inv v w object code output e (λ spec o known at. taken_said inv n v object code output spec o small states is.0 is.1 known h)
 objects_said inv n v w (acts.Set object setting) small states is e h =
-    ok_is (λ (x : World). All IsSaidObject x.objects) _ _ w refl e (changed_said v.objects object (with_setting setting) (λ o at x. setting_said setting o is x) h)
+    ok_is (λ (x : World). All IsSaidObject x.objects) _ _ w refl e (All-changed_at IsSaidObject v.objects object (with_setting setting) (λ o at x. setting_said setting o is x) h)
 objects_said inv n v w (acts.SetServices host setting) small states is e h =
     ok_is (λ (x : World). All IsSaidObject x.objects) _ _ w refl e (each_said v.objects (services_of inv.objects host) setting is h)
 objects_said inv n v w (acts.SendCustom object options) small states is e h =
     ok_is (λ (x : World). All IsSaidObject x.objects) _ _ w refl e
     (custom_cases (λ (x : World). All IsSaidObject x.objects) inv v object options h
-    (λ spec o known at notice sent. changed_said v.objects object (with_setting (settings.Number (custom_number options o))) (λ o2 at x. setting_said (settings.Number (custom_number options o)) o2 tt x) h))
+    (λ spec o known at notice sent. All-changed_at IsSaidObject v.objects object (with_setting (settings.Number (custom_number options o))) (λ o2 at x. setting_said (settings.Number (custom_number options o)) o2 tt x) h))
 objects_said inv n v w a small states is e h = subst (All IsSaidObject) (sym (ap (λ (x : World). x.objects) (act_leaves inv v w a e))) h
 
 -- and what the clock leaves of them

@@ -14,23 +14,27 @@ use Rattle.mon_downtime.specs.RecordLaws.{RecordsStayRecords}
 use Rattle.mon_inventory.specs.declared.records.ObjectSpec.{ObjectSpec}
 use Rattle.mon_inventory.specs.Configuration.{Configuration}
 use Rattle.mon_inventory.specs.Facts.{IsInventory}
+use Rattle.mon_engine.specs.declared.ends.Owed.{Owed}
+use Rattle.mon_engine.specs.Owed.{initial_owed, nobody}
 use Rattle.mon_engine.specs.declared.state.TheConstants.{GREATEST_BEFORE}
 use Rattle.mon_engine.specs.Objects.{is_service, initial_object}
 use Rattle.mon_engine.specs.World.{World, initial, initial_contact}
 use Rattle.mon_engine.specs.Clock.{advanced}
-use Rattle.mon_engine.specs.ByClock.{told_by_clock}
 use Rattle.mon_engine.specs.Step.{settled, counted, acted, step, meaning_from}
 use Rattle.mon_engine.specs.Laws.{moment_of}
 use Rattle.mon_engine.specs.Telling.{forgotten}
-use Rattle.mon_engine.specs.Sound.{IsNoticeOf, IsWorldAt, IsWorld, Follows, ever, raised}
+use Rattle.mon_engine.specs.Sound.{IsNoticeOf, IsWorldAt, IsWorld, Follows, ever, raised, AreObjectStates}
 use Rattle.mon_engine.specs.Saved.{IsSaidObject, IsSaidComment, IsSaidDowntime, IsSaved, going_on}
 use Rattle.mon_engine.specs.SavedLaws.{AreWellFormed, JournalsAreWellFormed, AnInitialWorldIsSaved, AWorldThatGoesOnIsSaved, AWorldOfEntriesIsSaved, AResumedWorldIsSaved, AWorldOfAJournalIsSaved}
 use Rattle.mon_engine.proofs.AskedLemmas.{named_fit, named_stands}
 use Rattle.mon_engine.proofs.TargetLemmas.{named_asks, asked_said, IsSaidAct}
-use Rattle.mon_engine.proofs.ByClockLemmas.{clock_leaves}
 use Rattle.mon_engine.proofs.EntryLemmas.{entry_cases, found, advanced_leaves, kept_objects}
 use Rattle.mon_engine.proofs.StateLemmas.{initial_states}
-use Rattle.mon_engine.proofs.SoundLemmas.{act_follows, rejected_follows, acted_sound, stepped, found_sound}
+use Rattle.mon_engine.proofs.SoundLemmas.{act_follows, rejected_follows, acted_sound, found_sound}
+use Rattle.mon_engine.proofs.StepLemmas.{stepped}
+use Rattle.mon_downtime.specs.Clock.{WhatIsDueHappens, NothingIsLeft}
+use Rattle.mon_engine.proofs.EndLemmas.{ends_leave, ends_objects, step_leaves, step_objects}
+use Rattle.mon_engine.specs.Ends.{told_ends}
 use Rattle.mon_engine.proofs.SaidLemmas.{AreSaidNotes, AreSaidDowntimes, notes_said, downtimes_said, objects_said, clock_said, advanced_said}
 use Rattle.mon_engine.proofs.ResumedLemmas.{step_counts, each_entry_is_counted, going_on_means_the_same}
 
@@ -88,27 +92,26 @@ acted_done order stay inv w e sound formed room h = entry_cases inv w e (λ p. I
     objects : All IsSaidObject (found inv w e).objects
     objects = subst (All IsSaidObject) (sym (kept_objects inv w (moment_of w e))) h.objects
 
-step_good : (order : CommentsStayInOrder) (stay : RecordsStayRecords) (inv : Configuration) (w : World) (e : Entry) → IsInventory inv → IsWellFormed e.stamped → w.entries < GREATEST_LIMIT → IsGood inv w → IsGood inv (step inv w e).0
-unfolding step
-step_good order stay inv w e sound formed room h =
+step_good : (order : CommentsStayInOrder) (stay : RecordsStayRecords) (each : WhatIsDueHappens) (left : NothingIsLeft) (inv : Configuration) (w : World) (e : Entry) → IsInventory inv → IsWellFormed e.stamped → w.entries < GREATEST_LIMIT → IsGood inv w → IsGood inv (step inv w e).0
+step_good order stay each left inv w e sound formed room h =
     let v : World = (acted inv w e).0 in
     let done = acted_done order stay inv w e sound formed room h in
-    let leaves = clock_leaves inv v in
+    let leaves = step_leaves inv w e in
     record {
-      world = (stepped inv w v (told_by_clock inv v) done.world refl).0;
+      world = (stepped each left inv w e done.world).0;
       notes = subst AreSaidNotes (sym (ap (λ (x : World). x.notes) leaves)) done.notes;
       downtimes = subst AreSaidDowntimes (sym (ap (λ (x : World). x.downtimes) leaves)) done.downtimes;
-      objects = clock_said inv v done.world.0.clock done.objects;
+      objects = subst (All IsSaidObject) (sym (step_objects inv w e)) (clock_said inv (told_ends inv v) (let same = ap (λ (x : World). x.clock) (ends_leave inv v) in let small = done.world.0.clock in omega (arith, same, small)) (subst (All IsSaidObject) (sym (ends_objects inv v)) done.objects));
     }
 
 -- ---- entries
 
-means_good : (order : CommentsStayInOrder) (stay : RecordsStayRecords) (inv : Configuration) (w : World) (es : List Entry) → IsInventory inv → AreWellFormed es → w.entries + length es ≤ GREATEST_LIMIT → IsGood inv w → IsGood inv (meaning_from inv w es)
+means_good : (order : CommentsStayInOrder) (stay : RecordsStayRecords) (each : WhatIsDueHappens) (done : NothingIsLeft) (inv : Configuration) (w : World) (es : List Entry) → IsInventory inv → AreWellFormed es → w.entries + length es ≤ GREATEST_LIMIT → IsGood inv w → IsGood inv (meaning_from inv w es)
 unfolding meaning_from
-means_good order stay inv w [] sound formed room h = h
-means_good order stay inv w (e ∷ es) sound formed room h =
+means_good order stay each done inv w [] sound formed room h = h
+means_good order stay each done inv w (e ∷ es) sound formed room h =
     let count = (step_counts inv w e).0 in
-    means_good order stay inv (step inv w e).0 es sound formed.1 (omega (arith, count, room)) (step_good order stay inv w e sound formed.0 (omega (arith, room)) h)
+    means_good order stay each done inv (step inv w e).0 es sound formed.1 (omega (arith, count, room)) (step_good order stay each done inv w e sound formed.0 (omega (arith, room)) h)
 
 -- a world that goes on holds together, where there is room to count on
 pub going_on_world : (inv : Configuration) (w : World) → ever w ≤ GREATEST_BEFORE → IsWorld inv w → IsWorld inv (going_on w)
@@ -116,6 +119,9 @@ going_on_world inv w room h = subst (λ (n : ℕ). IsWorldAt inv n (2 * n) (goin
   clock = h.clock;
   states = h.states;
   contacts = h.contacts;
+  owing = h.owing;
+  ends = h.ends;
+  without = h.without;
   comments = h.comments;
   noted = h.noted;
   downtimes = h.downtimes;
@@ -131,16 +137,16 @@ going_on_world inv w room h = subst (λ (n : ℕ). IsWorldAt inv n (2 * n) (goin
 going_on_good : (inv : Configuration) (w : World) → ever w ≤ GREATEST_BEFORE → IsGood inv w → IsGood inv (going_on w)
 going_on_good inv w room h = record { world = going_on_world inv w room h.world; notes = h.notes; downtimes = h.downtimes; objects = h.objects }
 
-resumed_good : (order : CommentsStayInOrder) (stay : RecordsStayRecords) (inv : Configuration) (w : World) (es : List Entry) → IsInventory inv → AreWellFormed es → ever w + length es ≤ GREATEST_BEFORE → IsGood inv w → IsGood inv (going_on (meaning_from inv w es))
+resumed_good : (order : CommentsStayInOrder) (stay : RecordsStayRecords) (each : WhatIsDueHappens) (done : NothingIsLeft) (inv : Configuration) (w : World) (es : List Entry) → IsInventory inv → AreWellFormed es → ever w + length es ≤ GREATEST_BEFORE → IsGood inv w → IsGood inv (going_on (meaning_from inv w es))
 unfolding meaning_from
-resumed_good order stay inv w [] sound formed room h = going_on_good inv w (omega (arith, room)) h
-resumed_good order stay inv w (e ∷ es) sound formed room h =
+resumed_good order stay each done inv w [] sound formed room h = going_on_good inv w (omega (arith, room)) h
+resumed_good order stay each done inv w (e ∷ es) sound formed room h =
     let counts = step_counts inv (going_on w) e in
     let entries = counts.0 in
     let before = counts.1 in
     subst (IsGood inv) (going_on_means_the_same inv w (e ∷ es)).1
-    (resumed_good order stay inv (step inv (going_on w) e).0 es sound formed.1 (omega (arith, entries, before, room))
-    (step_good order stay inv (going_on w) e sound formed.0 (omega arith) (going_on_good inv w (omega (arith, room)) h)))
+    (resumed_good order stay each done inv (step inv (going_on w) e).0 es sound formed.1 (omega (arith, entries, before, room))
+    (step_good order stay each done inv (going_on w) e sound formed.0 (omega arith) (going_on_good inv w (omega (arith, room)) h)))
 
 -- ---- what can be written
 
@@ -157,6 +163,9 @@ forgotten_world inv n m w h = record {
   clock = h.clock;
   states = h.states;
   contacts = h.contacts;
+  owing = h.owing;
+  ends = h.ends;
+  without = h.without;
   comments = h.comments;
   noted = h.noted;
   downtimes = h.downtimes;
@@ -188,19 +197,19 @@ a_world_that_goes_on_is_saved inv w h = record {
   room = (let room = h.room in omega (arith, room));
 }
 
-pub a_world_of_entries_is_saved : (order : CommentsStayInOrder) (stay : RecordsStayRecords) → AWorldOfEntriesIsSaved
-a_world_of_entries_is_saved order stay inv w es sound h formed room limit =
+pub a_world_of_entries_is_saved : (order : CommentsStayInOrder) (stay : RecordsStayRecords) (each : WhatIsDueHappens) (done : NothingIsLeft) → AWorldOfEntriesIsSaved
+a_world_of_entries_is_saved order stay each done inv w es sound h formed room limit =
     let counts = each_entry_is_counted inv w es in
     let entries = counts.0 in
     let before = counts.1 in
-    saved_from inv (meaning_from inv w es) (omega (arith, entries, before, room)) (means_good order stay inv w es sound formed limit (good_from inv w h))
+    saved_from inv (meaning_from inv w es) (omega (arith, entries, before, room)) (means_good order stay each done inv w es sound formed limit (good_from inv w h))
 
-pub a_resumed_world_is_saved : (order : CommentsStayInOrder) (stay : RecordsStayRecords) → AResumedWorldIsSaved
-a_resumed_world_is_saved order stay inv w es sound h formed room =
+pub a_resumed_world_is_saved : (order : CommentsStayInOrder) (stay : RecordsStayRecords) (each : WhatIsDueHappens) (done : NothingIsLeft) → AResumedWorldIsSaved
+a_resumed_world_is_saved order stay each done inv w es sound h formed room =
     let counts = each_entry_is_counted inv w es in
     let entries = counts.0 in
     let before = counts.1 in
-    saved_from inv (going_on (meaning_from inv w es)) (omega (arith, entries, before, room)) (resumed_good order stay inv w es sound formed room (good_from inv w h))
+    saved_from inv (going_on (meaning_from inv w es)) (omega (arith, entries, before, room)) (resumed_good order stay each done inv w es sound formed room (good_from inv w h))
 
 -- ---- journals
 
@@ -221,21 +230,32 @@ objects_first (spec ∷ specs) = All-cons IsSaidObject (initial_object spec) (ma
     first : IsSaidObject (initial_object spec)
     first = record { code = code (is_service spec); last = tt; notified = tt; not_before = tt; moments = record { checked = tt; changed = omega arith; since = tt }; output = tt }
 
+pub owed_first : (P : Owed → Type 0) → P nobody → (specs : List ObjectSpec) → All P (map initial_owed specs)
+owed_first P is [] = All-nil P
+owed_first P is (spec ∷ specs) = All-cons P nobody (map initial_owed specs) is (owed_first P is specs)
+
+pub initial_is_world : (inv : Configuration) → AreObjectStates 0 inv.objects (map initial_object inv.objects) → IsWorldAt inv 0 0 (initial inv)
+unfolding initial
+initial_is_world inv states = record {
+  clock = omega arith;
+  states = states;
+  contacts = length-map inv.contacts initial_contact;
+  owing = record { as_many = length-map inv.objects initial_owed; within = owed_first (λ x. All (λ c. c < length inv.contacts) x.contacts) (All-nil (λ c. c < length inv.contacts)) inv.objects };
+  ends = owed_first (λ x. x.number ≤ GREATEST_NUMBER + 0) (omega arith) inv.objects;
+  without = λ off. owed_first (λ x. x ≡ nobody) refl inv.objects;
+  comments = omega arith;
+  noted = All-nil (λ (c : Comment). c.object < length inv.objects);
+  downtimes = omega arith;
+  known = All-nil (λ (d : Downtime). d.object < length inv.objects);
+  notices = All-nil (IsNoticeOf inv);
+  limit = omega arith;
+  earlier = omega arith;
+}
+
 pub an_initial_world_is_saved : AnInitialWorldIsSaved
 unfolding initial
 an_initial_world_is_saved inv sound = record {
-  world = record {
-    clock = omega arith;
-    states = initial_states inv sound;
-    contacts = length-map inv.contacts initial_contact;
-    comments = omega arith;
-    noted = All-nil (λ (c : Comment). c.object < length inv.objects);
-    downtimes = omega arith;
-    known = All-nil (λ (d : Downtime). d.object < length inv.objects);
-    notices = All-nil (IsNoticeOf inv);
-    limit = omega arith;
-    earlier = omega arith;
-  };
+  world = initial_is_world inv (initial_states inv sound);
   notes = record { ascending = tt; given = tt };
   records = tt;
   said = record { objects = objects_first inv.objects; comments = All-nil IsSaidComment; downtimes = All-nil IsSaidDowntime };
@@ -246,11 +266,11 @@ an_initial_world_is_saved inv sound = record {
 
 -- ---- from the first entry on
 
-pub a_world_of_a_journal_is_saved : (order : CommentsStayInOrder) (stay : RecordsStayRecords) → AWorldOfAJournalIsSaved
+pub a_world_of_a_journal_is_saved : (order : CommentsStayInOrder) (stay : RecordsStayRecords) (each : WhatIsDueHappens) (done : NothingIsLeft) → AWorldOfAJournalIsSaved
 unfolding initial
-a_world_of_a_journal_is_saved order stay inv journal sound is room = (
-  a_resumed_world_is_saved order stay inv (initial inv) journal sound first formed all,
-  λ few. a_world_of_entries_is_saved order stay inv (initial inv) journal sound first formed all (omega (arith, few)),
+a_world_of_a_journal_is_saved order stay each done inv journal sound is room = (
+  a_resumed_world_is_saved order stay each done inv (initial inv) journal sound first formed all,
+  λ few. a_world_of_entries_is_saved order stay each done inv (initial inv) journal sound first formed all (omega (arith, few)),
 )
   where
     first : IsSaved inv (initial inv)

@@ -12,7 +12,7 @@ use Rattle.mon_downtime.specs.Problem.{all_waiting}
 use Rattle.mon_downtime.specs.Records.{depth_of}
 use Rattle.mon_downtime.specs.Clock.{WhatIsDueHappens, NothingIsLeft}
 use Rattle.mon_inventory.specs.declared.records.ObjectSpec.{ObjectSpec}
-use Rattle.mon_inventory.specs.Configuration.{Configuration}
+use Rattle.mon_inventory.specs.Configuration.{Configuration, recovers_the_told}
 use Rattle.mon_engine.specs.declared.notices.Occasion.TheVariants.{Check}
 use Rattle.mon_engine.specs.declared.notice.Notice.{Notice}
 use Rattle.mon_engine.specs.declared.notice.Word.{Word}
@@ -37,16 +37,17 @@ use Rattle.mon_engine.proofs.EntryLemmas.{found, advanced_idle}
 use Rattle.mon_engine.proofs.ListLemmas.{All-each}
 use Rattle.mon_engine.proofs.NoticeLemmas.{IfAny, IsAs, is_of_downtime, downtime_notice_as, acknowledgement_notice_as, problem_notice_as, recovery_notice_as, custom_notice_as, cancel_notice_as}
 use Rattle.mon_engine.proofs.NewsLemmas.{More, more_same, more_on, more_weaker, if_some, downtime_word, news_are}
-use Rattle.mon_engine.proofs.ReachedLemmas.{recovery_open}
+use Rattle.mon_engine.proofs.ReachedLemmas.{recovery_off, recovery_open}
 use Rattle.mon_engine.proofs.SentLemmas.{all_sent}
 use Rattle.mon_engine.proofs.ToldLemmas.{viable_open, problem_viable_as, started_before}
 
 abbrev IsOfState : Word → Type 0
 IsOfState word = (word ≡ words.Problem) ⊎ (word ≡ words.Recovery)
 
--- where it is a PROBLEM or a RECOVERY, its object is in no downtime in the world v, whose downtimes are these
+-- where it is a PROBLEM or a RECOVERY, its object is in no downtime in the world v, whose downtimes are these; a RECOVERY
+-- goes out without the option `recover_the_told` alone
 abbrev IsStill : Configuration → (v : World) → List Downtime → Notice → Type 0
-IsStill inv v ds n = IsOfState n.subject.word → IsInNoDowntime inv v n.subject.object × (ds ≡ v.downtimes)
+IsStill inv v ds n = IsOfState n.subject.word → IsInNoDowntime inv v n.subject.object × (ds ≡ v.downtimes) × (n.subject.word ≡ words.Recovery → recovers_the_told inv ≡ false)
 
 -- ---- notices of other words
 
@@ -77,7 +78,7 @@ silent : (inv : Configuration) (v b : World) → b.notices ≡ v.notices → Sta
 silent inv v b same = subst (More (IsStill inv v b.downtimes) v.notices) (sym same) (more_same (IsStill inv v b.downtimes) v.notices)
 
 -- what the depths among the facts say
-in_none : (inv : Configuration) (v u : World) (object : ℕ) (spec : ObjectSpec) → slice_get inv.objects object ≡ Some spec → u.downtimes ≡ v.downtimes → depth_of u.downtimes object ≡ 0
+pub in_none : (inv : Configuration) (v u : World) (object : ℕ) (spec : ObjectSpec) → slice_get inv.objects object ≡ Some spec → u.downtimes ≡ v.downtimes → depth_of u.downtimes object ≡ 0
     → (if is_service spec then depth_of u.downtimes spec.host_object else 0) ≡ 0 → IsInNoDowntime inv v object
 in_none inv v u object spec known same depth host = record {
   depth = ap (λ (ds : List Downtime). depth_of ds object) (sym same) ∙ depth;
@@ -88,8 +89,8 @@ in_none inv v u object spec known same depth host = record {
 }
 
 -- a notice of this word and object is still where the object is in no downtime
-one_still : (inv : Configuration) (v : World) (ds : List Downtime) (word : Word) (object : ℕ) (n : Notice) → IsAs inv word object n → IsInNoDowntime inv v object → ds ≡ v.downtimes → IsStill inv v ds n
-one_still inv v ds word object n is none same of = (subst (IsInNoDowntime inv v) (sym is.object_is) none, same)
+one_still : (inv : Configuration) (v : World) (ds : List Downtime) (word : Word) (object : ℕ) (n : Notice) → IsAs inv word object n → (word ≡ words.Recovery → recovers_the_told inv ≡ false) → IsInNoDowntime inv v object → ds ≡ v.downtimes → IsStill inv v ds n
+one_still inv v ds word object n is off none same of = (subst (IsInNoDowntime inv v) (sym is.object_is) none, same, λ recovery. off (sym is.word_is ∙ recovery))
 
 -- a world with more notices of other words; where no downtime of the object is active, its downtimes are those of v
 record IsReady (inv : Configuration) (v u : World) (object : ℕ) : Type 0 where
@@ -121,12 +122,14 @@ noticed_stays inv v u object change before = noticed_cases (Stays inv v) inv u o
     let same : u.downtimes ≡ v.downtimes = before.downtimes open_for.depth in
     one_still inv v _ words.Recovery object n
     (All-head (IsAs inv words.Recovery object) n [] (subst (IfAny (IsAs inv words.Recovery object)) e (recovery_notice_as inv u object change.hard_recovery spec o (slice_get_within inv.objects object spec known))))
+    (λ recovery. recovery_off inv u object change.hard_recovery spec o n e)
     (in_none inv v u object spec known same open_for.depth open_for.host_depth) same))))
     (λ spec o known at n e. (let open_for = viable_open (problem_facts inv u Check object spec o) (problem_viable_as inv u Check object spec o n e) in
     let same : u.downtimes ≡ v.downtimes = before.downtimes open_for.depth in
     more_on (IsStill inv v _) v.notices u.notices (n ∷ []) (others_still inv v u _ object before)
     (All-cons (IsStill inv v _) n [] (one_still inv v _ words.Problem object n
     (All-head (IsAs inv words.Problem object) n [] (subst (IfAny (IsAs inv words.Problem object)) e (problem_notice_as inv u Check object spec o (slice_get_within inv.objects object spec known))))
+    (λ recovery. absurd (cc))
     (in_none inv v u object spec known same open_for.depth open_for.host_depth) same) (All-nil (IsStill inv v _)))))
 
 cancel_stays : (inv : Configuration) (v : World) (id : ℕ) → Stays inv v (after_cancel inv v id)
@@ -164,16 +167,20 @@ end_none each done inv w b e object same h =
     same_none inv (found inv w e) (advanced inv (counted b) t) object (ap (λ (x : World). x.downtimes) (advanced_idle each inv (counted b) t idle) ∙ same) h
 
 abbrev InNone : Configuration → World → Entry → World × Outcome → Notice → Type 0
-InNone inv w e p n = IsOfState n.subject.word → IsInNoDowntime inv (advanced inv w (moment_of w e)) n.subject.object × IsInNoDowntime inv p.0 n.subject.object
+InNone inv w e p n = IsOfState n.subject.word → IsInNoDowntime inv (advanced inv w (moment_of w e)) n.subject.object × IsInNoDowntime inv p.0 n.subject.object × (n.subject.word ≡ words.Recovery → recovers_the_told inv ≡ false)
 
 all_in_none : (each : WhatIsDueHappens) (done : NothingIsLeft) (inv : Configuration) (w : World) (e : Entry) → All (InNone inv w e (acted inv w e)) (went_out w (acted inv w e).0)
 all_in_none each done inv w e = news_are each done inv w e (InNone inv w e)
     (λ p n t of. absurd (not_of_state n.subject.word (downtime_other n.subject.word (downtime_word inv w n t)) of))
     (λ a b asked h. (
       more_weaker (IsStill inv (found inv w e) b.downtimes) (InNone inv w e (closed_at inv (moment_of w e) (b, Applied))) (found inv w e).notices b.notices
-          (λ n still of. (let k = still of in (k.0, end_none each done inv w b e n.subject.object k.1 k.0))) (act_stays inv (found inv w e) b a h),
+          (λ n still of. (let k = still of in (k.0, end_none each done inv w b e n.subject.object k.1 k.0, k.2))) (act_stays inv (found inv w e) b a h),
       inr (λ n t of. absurd (not_of_state n.subject.word (downtime_other n.subject.word (downtime_word inv b n t)) of)),
     ))
 
 pub silence_is_kept : (each : WhatIsDueHappens) (done : NothingIsLeft) → SilenceIsKept
-silence_is_kept each done inv w e k d lt = record { switches_on = (all_sent each done inv w e k d lt).switches_on; no_downtime = all_in_none each done inv w e k d lt }
+silence_is_kept each done inv w e k d lt = record { switches_on = (all_sent each done inv w e k d lt).switches_on; no_downtime = λ of. (let none = all_in_none each done inv w e k d lt of in (none.0, none.1)) }
+
+-- with the option `recover_the_told` what an entry does sends no RECOVERY
+pub none_recovers : (each : WhatIsDueHappens) (done : NothingIsLeft) (inv : Configuration) (w : World) (e : Entry) → All (λ n. n.subject.word ≡ words.Recovery → recovers_the_told inv ≡ false) (went_out w (acted inv w e).0)
+none_recovers each done inv w e = All-weaker (InNone inv w e (acted inv w e)) (λ n. n.subject.word ≡ words.Recovery → recovers_the_told inv ≡ false) (λ n none word. (none (inr word)).2 word) (went_out w (acted inv w e).0) (all_in_none each done inv w e)

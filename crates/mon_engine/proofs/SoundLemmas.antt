@@ -1,13 +1,14 @@
 -- Each entry leads from a world that holds together to another: what it does, and the clock's telling after it.
-use Rattle.std.proofs.Common.{◌≡◌, ◌⊎◌, inl, inr, Bool, true, ℕ, ◌+◌, ◌*◌, ◌<◌, ◌≤◌, false, not, eqb, List, [], ◌∷◌, ◌++◌, length, is_some, slice_get, if◌then◌else◌, Some, Result, Ok, Err, max, refl, ap, sym, ◌∙◌, subst, arith}
-use Rattle.std.specs.Prelude.{OnOk}
-use Rattle.std.proofs.lemmas.List.Elements.{All-head}
-use Rattle.std.proofs.lemmas.Option.{same_Some, slice_get_cases, slice_get_within}
+use Rattle.std.proofs.Common.{◌≡◌, true, false, true≢false, ◌⊎◌, inl, inr, Bool, true, ℕ, ◌+◌, ◌*◌, ◌<◌, ◌≤◌, false, not, eqb, List, [], ◌∷◌, ◌++◌, length, is_some, slice_get, if◌then◌else◌, Some, Result, Ok, Err, max, refl, ap, sym, ◌∙◌, subst, arith, All, Option, None}
+use Rattle.std.specs.Prelude.{OnOk, option_to_list}
+use Rattle.std.specs.List.{fold, range_with_len}
+use Rattle.std.proofs.lemmas.List.Elements.{All-nil, All-head, All-filter, All-get_or}
+use Rattle.std.proofs.lemmas.Option.{same_Some, get_or_from_slice_get, slice_get_cases, slice_get_within}
 use Rattle.cmd_types.specs.declared.limits.TheConstants.{GREATEST_NUMBER}
 use Rattle.cmd_journal.specs.declared.journal.TheConstants.{GREATEST_LIMIT}
 use Rattle.mon_downtime.specs.declared.event.Event.{Event}
 use Rattle.mon_downtime.specs.Schedule.{fault_of, new_record, new_records}
-use Rattle.mon_inventory.specs.Configuration.{Configuration}
+use Rattle.mon_inventory.specs.Configuration.{Configuration, recovers_the_told, tells_by_clock}
 use Rattle.mon_inventory.specs.Facts.{IsInventory}
 use Rattle.mon_inventory.specs.Lookups.{services_of}
 use Rattle.mon_inventory.specs.declared.records.ObjectSpec.{ObjectSpec}
@@ -19,6 +20,12 @@ use Rattle.mon_engine.specs.declared.outcome.Reason.{Reason}
 use Rattle.mon_engine.specs.declared.outcome.Rejection.{Rejection}
 use Rattle.mon_engine.specs.declared.stop.ActStop.{ActStop}
 use Rattle.mon_engine.specs.declared.stop.ActStop.TheVariants.{Rejected, Memory}
+use Rattle.mon_engine.specs.declared.ends.Owed.{Owed}
+use Rattle.mon_engine.specs.declared.notice.Word.TheVariants.{Recovery}
+use Rattle.mon_engine.specs.Ends.{end_notice, owed_at, owed_of, told_end, told_ends, told_ends_among, with_owed}
+use Rattle.mon_engine.specs.Notices.{subject_of, told, told_problem, with_problem}
+use Rattle.mon_engine.specs.Step.{stood}
+use Rattle.mon_notify.specs.Ends.{is_within_reach, missed, reached}
 use Rattle.mon_engine.specs.Places.{changed_at}
 use Rattle.mon_engine.specs.World.{World}
 use Rattle.mon_engine.specs.Clock.{due_in, with_event, fired, drained, advanced}
@@ -27,21 +34,23 @@ use Rattle.mon_engine.specs.Objects.{after_told}
 use Rattle.mon_engine.specs.ByClock.{told_by_clock}
 use Rattle.mon_engine.specs.ByClockLaws.{ready_notice, TellsWhatIsReady}
 use Rattle.mon_engine.specs.Stops.{Acts}
-use Rattle.mon_engine.specs.Sound.{IsObjectState, AreObjectStates, IsNoticeOf, IsWorldAt, IsWorld, Follows, ever, raised}
+use Rattle.mon_engine.specs.Sound.{IsObjectState, AreObjectStates, IsNoticeOf, IsWorldAt, IsWorld, Follows, ever, raised, IsTellable, IsOwing}
 use Rattle.mon_engine.proofs.ClockLemmas.{drained_keeps}
 use Rattle.mon_engine.proofs.DowntimeLemmas.{length-after_event, after_event_known}
-use Rattle.mon_engine.proofs.ListLemmas.{length-changed_at}
-use Rattle.mon_engine.proofs.NoticeLemmas.{IfAny, downtime_notice_as, event_notice_as, problem_notice_as, sound_as}
+use Rattle.mon_engine.proofs.ListLemmas.{All-changed_at, length-changed_at}
+use Rattle.mon_engine.proofs.NoticeLemmas.{IfAny, downtime_notice_as, event_notice_as, problem_notice_as, sound_as, to_someone_sound}
 use Rattle.mon_engine.proofs.StateLemmas.{same_status, set_states, set_each_states}
 use Rattle.mon_engine.specs.Effects as acts
 use Rattle.mon_engine.specs.Effects.{Act, act, IsFit, Stands}
-use Rattle.mon_engine.proofs.PartLemmas.{later, next_world, with_states, with_others, with_contacts, with_downtimes, with_more_notices}
+use Rattle.mon_engine.proofs.PartLemmas.{later, next_world, with_states, with_others, with_contacts, with_downtimes, with_more_notices, with_owed_all}
 use Rattle.mon_engine.proofs.ActLemmas.{ok_is}
 use Rattle.mon_engine.proofs.AcknowledgementLemmas.{commented_world, fewer, del_follows, acknowledge_follows, unacknowledge_follows}
 use Rattle.mon_engine.proofs.ScheduledLemmas.{scheduled_follows, one_record, service_records, cancelled_follows}
 use Rattle.mon_engine.proofs.ResultLemmas.{result_follows}
 use Rattle.mon_engine.proofs.CustomLemmas.{custom_follows}
-use Rattle.mon_engine.proofs.ByClockLemmas.{ready_says, clock_cases, clock_leaves, clock_more}
+use Rattle.mon_engine.proofs.ByClockLemmas.{ready_says, clock_cases, clock_more, clock_leaves, told_tellable, told_problem_is}
+use Rattle.mon_engine.proofs.EndLemmas.{end_cases, end_leaves, ends_leave}
+use Rattle.mon_engine.specs.Wakes.{told_one, problem_told, end_told}
 
 -- ---- what commands set
 
@@ -50,7 +59,7 @@ done w = Ok w
 
 set_follows : (inv : Configuration) (w w' : World) (os : List Object) → IsWorld inv w → AreObjectStates (raised w + 1) inv.objects os → done (record w { objects = os }) ≡ Ok w' → Follows inv w w'
 set_follows inv w w' os h states e =
-    ok_is (Follows inv w) (done (record w { objects = os })) _ w' refl e (record { world = with_states inv (ever w + 1) (raised w + 1) (raised w + 1) w os (next_world inv w h) states; entries = refl; before = refl })
+    ok_is (Follows inv w) (done (record w { objects = os })) _ w' refl e (record { world = with_states inv (ever w + 1) (raised w + 1) (raised w + 1) w os (omega arith) (next_world inv w h) states; entries = refl; before = refl })
 
 program_follows : (inv : Configuration) (w w' : World) (program : Program) → IsWorld inv w → done (record w { program = program }) ≡ Ok w' → Follows inv w w'
 program_follows inv w w' program h e =
@@ -199,15 +208,116 @@ pub clock_sound : (inv : Configuration) (n m : ℕ) (w : World) → IsWorldAt in
 clock_sound inv n m w h = clock_cases inv w (IsWorldAt inv n (m + 1)) (later inv n m n (m + 1) w (omega arith) (omega arith) h)
     (λ v tells. (let more = clock_more inv w v (IsNoticeOf inv) tells (ready_sound inv w) in
     subst (IsWorldAt inv n (m + 1)) (sym (tells.same ∙ ap (λ (ns : List Notice). record w { objects = v.objects; notices = ns }) (ap (λ (x : World). x.notices) (sym tells.same) ∙ more.1)))
-    (with_states inv n m (m + 1) (record w { notices = w.notices ++ more.0 }) v.objects (with_more_notices inv n m w more.0 h more.2) (told_states inv m w v tells h.states))))
+    (with_states inv n m (m + 1) (record w { notices = w.notices ++ more.0 }) v.objects (omega arith) (with_more_notices inv n m w more.0 h more.2) (told_states inv m w v tells h.states))))
 
--- one entry: v is what it does to w, and u stands once the clock has told
-pub stepped : (inv : Configuration) (w v u : World) → IsWorldAt inv (ever w + 1) (raised w + 1) v × (v.entries ≡ w.entries + 1) × (v.before ≡ w.before) → u ≡ told_by_clock inv v → IsWorld inv u × (u.entries ≡ w.entries + 1)
-stepped inv w v u done is =
-    let entries : u.entries ≡ w.entries + 1 = ap (λ (x : World). x.entries) (is ∙ clock_leaves inv v) ∙ done.1 in
-    let before : u.before ≡ w.before = ap (λ (x : World). x.before) (is ∙ clock_leaves inv v) ∙ done.2 in
-    let sound : IsWorldAt inv (ever w + 1) (raised w + 1 + 1) u = subst (IsWorldAt inv (ever w + 1) (raised w + 1 + 1)) (sym is) (clock_sound inv (ever w + 1) (raised w + 1) v done.0) in
-    (later inv (ever w + 1) (raised w + 1 + 1) (ever u) (raised u) u (omega (arith, entries, before)) (omega (arith, entries, before)) sound, entries)
+-- who is owed ends stays in the inventory
+owing_with : (inv : Configuration) (owed : List Owed) (k : ℕ) (cs : List ℕ) → IsOwing inv owed → All (λ c. c < length inv.contacts) cs → IsOwing inv (changed_at owed k (λ x. record x { contacts = cs }))
+owing_with inv owed k cs h known = record {
+  as_many = length-changed_at owed k (λ x. record x { contacts = cs }) ∙ h.as_many;
+  within = All-changed_at (λ x. All (λ c. c < length inv.contacts) x.contacts) owed k (λ x. record x { contacts = cs }) (λ x at was. known) h.within;
+}
+
+owed_known : (inv : Configuration) (owed : List Owed) (k : ℕ) → IsOwing inv owed → All (λ c. c < length inv.contacts) (owed_of (slice_get owed k)).contacts
+owed_known inv owed k h = by (slice_get owed k) refl
+  where
+    by : (x : Option Owed) → slice_get owed k ≡ x → All (λ c. c < length inv.contacts) (owed_of x).contacts
+    by None at = All-nil (λ c. c < length inv.contacts)
+    by (Some x) at = subst (λ (y : Owed). All (λ c. c < length inv.contacts) y.contacts) (get_or_from_slice_get owed k x x at) (All-get_or (λ y. All (λ c. c < length inv.contacts) y.contacts) owed k x (slice_get_within owed k x at) h.within)
+
+pub end_owing : (inv : Configuration) (w : World) (k : ℕ) → IsOwing inv w.owed → IsOwing inv (told_end inv w k).owed
+end_owing inv w k h = end_cases (λ v. IsOwing inv v.owed) inv w k (λ idle. h) (λ spec o known at due stale. owing_with inv w.owed k [] h (All-nil (λ c. c < length inv.contacts)))
+    (λ spec o known at due news. owing_with inv w.owed k (missed inv w.contacts k (owed_at w k).contacts) h (All-filter (λ c. not (is_within_reach inv w.contacts k c)) (λ c. c < length inv.contacts) (owed_at w k).contacts (owed_known inv w.owed k h)))
+
+pub end_tellable : (inv : Configuration) (w : World) (k : ℕ) → IsTellable inv w → IsTellable inv (told_end inv w k)
+end_tellable inv w k h = (let left = end_leaves inv w k in record { objects = ap (λ (x : World). length x.objects) left ∙ h.objects; contacts = ap (λ (x : World). length x.contacts) left ∙ h.contacts })
+
+pub clock_tellable : (inv : Configuration) (w : World) → IsTellable inv w → IsTellable inv (told_by_clock inv w)
+clock_tellable inv w h = clock_cases inv w (IsTellable inv) h (λ v tells. record { objects = tells.as_many ∙ h.objects; contacts = ap (λ (x : World). length x.contacts) tells.same ∙ h.contacts })
+
+pub clock_owing : (inv : Configuration) (w : World) → IsOwing inv w.owed → IsOwing inv (told_by_clock inv w).owed
+clock_owing inv w h = subst (λ (x : World). IsOwing inv x.owed) (sym (clock_leaves inv w)) h
+
+pub ends_tellable : (inv : Configuration) (w : World) → IsTellable inv w → IsTellable inv (told_ends inv w)
+ends_tellable inv w h = (let left = ends_leave inv w in record { objects = ap (λ (x : World). length x.objects) left ∙ h.objects; contacts = ap (λ (x : World). length x.contacts) left ∙ h.contacts })
+
+pub ends_owing : (inv : Configuration) (w : World) → IsOwing inv w.owed → IsOwing inv (told_ends inv w).owed
+unfolding told_ends
+ends_owing inv w h = by_option (recovers_the_told inv)
+  where
+    each : (v : World) (ks : List ℕ) → IsOwing inv v.owed → IsOwing inv (fold (told_end inv) v ks).owed
+    each v [] g = g
+    each v (k ∷ ks) g = each (told_end inv v k) ks (end_owing inv v k g)
+
+    by_option : (b : Bool) → IsOwing inv (if b then told_ends_among inv w (length inv.objects) else w).owed
+    by_option true = each w (range_with_len 0 (length inv.objects)) h
+    by_option false = h
+
+pub one_tellable : (inv : Configuration) (w : World) (k : ℕ) → IsTellable inv w → IsTellable inv (told_one inv w k)
+one_tellable inv w k h = by_option (recovers_the_told inv) (tells_by_clock inv)
+  where
+    by_option : (ends tells : Bool) → IsTellable inv (problem_told tells inv (end_told ends inv w k) k)
+    by_option true true = told_tellable inv (told_end inv w k) (told_problem inv Clock (told_end inv w k) k) k (end_tellable inv w k h) refl
+    by_option true false = end_tellable inv w k h
+    by_option false true = told_tellable inv w (told_problem inv Clock w k) k h refl
+    by_option false false = h
+
+pub one_owing : (inv : Configuration) (w : World) (k : ℕ) → IsOwing inv w.owed → IsOwing inv (told_one inv w k).owed
+one_owing inv w k h = by_option (recovers_the_told inv) (tells_by_clock inv)
+  where
+    left : (v : World) → IsOwing inv v.owed → IsOwing inv (told_problem inv Clock v k).owed
+    left v g = subst (λ (x : World). IsOwing inv x.owed) (sym (told_problem_is inv v k)) (by_ready v g (ready_notice inv v k))
+      where
+        by_ready : (v : World) → IsOwing inv v.owed → (r : Option Notice) → IsOwing inv (with_problem v k r).owed
+        by_ready v g None = g
+        by_ready v g (Some n) = g
+
+    by_option : (ends tells : Bool) → IsOwing inv (problem_told tells inv (end_told ends inv w k) k).owed
+    by_option true true = left (told_end inv w k) (end_owing inv w k h)
+    by_option true false = end_owing inv w k h
+    by_option false true = left w h
+    by_option false false = h
+
+-- what is told of an end
+end_sound : (inv : Configuration) (n m : ℕ) (w : World) (k : ℕ) → recovers_the_told inv ≡ true → IsWorldAt inv n m w → IsWorldAt inv n m (told_end inv w k)
+end_sound inv n m w k on h = end_cases (IsWorldAt inv n m) inv w k (λ idle. h)
+    (λ spec o known at due stale. owed_sound w h [] (λ x there few. All-nil (λ c. c < length inv.contacts)))
+    (λ spec o known at due news. owed_sound (told w (end_notice inv w k o (owed_at w k))) (with_more_notices inv n m w _ h (notice spec o known)) (missed inv w.contacts k (owed_at w k).contacts)
+    (λ x there few. All-filter (λ c. not (is_within_reach inv w.contacts k c)) (λ c. c < length inv.contacts) (owed_at w k).contacts (within w h k)))
+  where
+    Known : List ℕ → Type 0
+    Known cs = All (λ c. c < length inv.contacts) cs
+
+    within : (v : World) → IsWorldAt inv n m v → (j : ℕ) → Known (owed_at v j).contacts
+    within v g j = by (slice_get v.owed j) refl
+      where
+        by : (x : Option Owed) → slice_get v.owed j ≡ x → Known (owed_of x).contacts
+        by None at = All-nil (λ c. c < length inv.contacts)
+        by (Some x) at = subst (λ (y : Owed). Known y.contacts) (get_or_from_slice_get v.owed j x x at) (All-get_or (λ y. Known y.contacts) v.owed j x (slice_get_within v.owed j x at) g.owing.within)
+
+    owed_sound : (v : World) → IsWorldAt inv n m v → (cs : List ℕ) → ((x : Owed) → slice_get v.owed k ≡ Some x → Known x.contacts → Known cs) → IsWorldAt inv n m (with_owed v k cs)
+    owed_sound v g cs known = with_owed_all inv n m m v (changed_at v.owed k (λ x. record x { contacts = cs })) (omega arith) g
+        (record { as_many = length-changed_at v.owed k (λ x. record x { contacts = cs }) ∙ g.owing.as_many; within = All-changed_at (λ x. Known x.contacts) v.owed k (λ x. record x { contacts = cs }) known g.owing.within })
+        (All-changed_at (λ x. x.number ≤ GREATEST_NUMBER + m) v.owed k (λ x. record x { contacts = cs }) (λ x at few. few) g.ends)
+        (λ off. absurd (true≢false (sym on ∙ off)))
+
+    notice : (spec : ObjectSpec) (o : Object) → slice_get inv.objects k ≡ Some spec → All (IsNoticeOf inv) (option_to_list (end_notice inv w k o (owed_at w k)))
+    notice spec o known = to_someone_sound inv (subject_of w.clock Recovery k o (owed_at w k).number) (reached inv w.contacts k (owed_at w k).contacts) (slice_get_within inv.objects k spec known)
+        (All-filter (is_within_reach inv w.contacts k) (λ c. c < length inv.contacts) (owed_at w k).contacts (within w h k))
+
+pub ends_sound : (inv : Configuration) (n m : ℕ) (w : World) → IsWorldAt inv n m w → IsWorldAt inv n m (told_ends inv w)
+unfolding told_ends
+ends_sound inv n m w h = by_option (recovers_the_told inv) refl
+  where
+    each : recovers_the_told inv ≡ true → (v : World) (ks : List ℕ) → IsWorldAt inv n m v → IsWorldAt inv n m (fold (told_end inv) v ks)
+    each on v [] g = g
+    each on v (k ∷ ks) g = each on (told_end inv v k) ks (end_sound inv n m v k on g)
+
+    by_option : (b : Bool) → recovers_the_told inv ≡ b → IsWorldAt inv n m (if b then told_ends_among inv w (length inv.objects) else w)
+    by_option true on = each on w (range_with_len 0 (length inv.objects)) h
+    by_option false off = h
+
+pub stood_sound : (inv : Configuration) (n m : ℕ) (v u : World) → IsWorldAt inv n m v → u ≡ stood inv v → IsWorldAt inv n (m + 1) u
+stood_sound inv n m v u h is = subst (IsWorldAt inv n (m + 1)) (sym is) (clock_sound inv n m (told_ends inv v) (ends_sound inv n m v h))
 
 pub found_sound : (inv : Configuration) (w a : World) (t : ℕ) → IsWorld inv w → t ≤ GREATEST_NUMBER → a ≡ advanced inv w t → IsWorld inv a
 found_sound inv w a t h small first =

@@ -16,12 +16,12 @@ use Rattle.mon_engine.specs.Effects.{Act}
 use Rattle.mon_engine.specs.Step.{counted, acted, step, meaning}
 use Rattle.mon_engine.specs.Laws.{moment_of, AppliesOne}
 use Rattle.mon_engine.specs.DowntimeLaws.{KeepsItsTime, HasBegun, TimeIsOver, CancelsDowntime, IsStillThere, DowntimeStands, DowntimesStand}
-use Rattle.mon_engine.proofs.ByClockLemmas.{clock_leaves}
 use Rattle.mon_engine.proofs.EntryLemmas.{found, found_clock, entry_cases}
 use Rattle.mon_engine.proofs.FoundLemmas.{known_downtime}
 use Rattle.mon_engine.proofs.MoveLemmas.{Moves, act_moves, IsEntered, AreEntered}
 use Rattle.mon_engine.proofs.StageLemmas.{IsStage, Goes, goes_on, advanced_goes, more_go, OutlastsFrom, started_goes, cancel_goes}
 use Rattle.mon_engine.proofs.TimeLemmas.{IsOnTime, acted_on_time, acted_clock, keeps_time, meaning_on_time}
+use Rattle.mon_engine.proofs.EndLemmas.{step_leaves}
 
 -- ---- an act
 
@@ -76,7 +76,7 @@ there_or C d t ds keep g = by_fate g.at.fate refl g.stage kept
 downtime_stands : DueIsFirst → StartsAreInTime → WhatIsNotDueIsToCome → records.NothingIsLeft → (inv : Configuration) (w : World) (e : Entry) (d : Downtime) → IsOnTime w → record_of w.downtimes d.id ≡ Some d → is_over d.fate ≡ false → DowntimeStands inv w e d
 unfolding step
 downtime_stands first in_time to_come done inv w e d on_time there alive = subst (λ (ds : List Downtime). IsStillThere ds d (moment_of w e) ⊎ (TimeIsOver d (moment_of w e) d.fate ⊎ AppliesOne inv e (acted inv w e).1 (CancelsDowntime inv (found inv w e).downtimes d)))
-    (sym (ap (λ (x : World). x.downtimes) (clock_leaves inv (acted inv w e).0))) (entry_cases inv w e
+    (sym (ap (λ (x : World). x.downtimes) (step_leaves inv w e))) (entry_cases inv w e
     (λ p. AllKeepTime p.0.downtimes (moment_of w e) → IsStillThere p.0.downtimes d (moment_of w e) ⊎ (TimeIsOver d (moment_of w e) d.fate ⊎ AppliesOne inv e p.1 (CancelsDowntime inv (found inv w e).downtimes d)))
     (λ why keep. elim (there_or ⊥ d (moment_of w e) _ keep (advanced_goes first inv d (moment_of w e) ⊥ _ at_found)) [
       | inl there ↦ inl there

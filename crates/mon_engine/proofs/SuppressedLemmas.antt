@@ -1,5 +1,5 @@
 -- No problem is told of whose notices something suppresses: neither by what an entry does nor by the clock after it.
-use Rattle.std.proofs.Common.{◌≡◌, ℕ, ◌+◌, Bool, true, false, if◌then◌else◌, Option, Some, is_some, slice_get, refl, ap, sym, ◌∙◌}
+use Rattle.std.proofs.Common.{◌≡◌, ℕ, ◌+◌, Bool, true, false, if◌then◌else◌, Option, Some, is_some, slice_get, refl, ap, sym, ◌∙◌, subst, length, List}
 use Rattle.std.proofs.lemmas.List.Elements.{All-weaker}
 use Rattle.mon_downtime.specs.Clock.{WhatIsDueHappens, NothingIsLeft}
 use Rattle.mon_downtime.specs.Records.{depth_of}
@@ -17,10 +17,12 @@ use Rattle.mon_engine.specs.World.{World}
 use Rattle.mon_engine.specs.Notices.{problem_facts, subject_of}
 use Rattle.mon_engine.specs.ByClock.{told_by_clock}
 use Rattle.mon_engine.specs.ByClockLaws.{ready_notice, after_ready, TellsWhatIsReady}
+use Rattle.mon_engine.specs.Ends.{told_ends}
 use Rattle.mon_engine.specs.Laws.{IsUnsuppressed, TellsOfProblems, SuppressedProblemsAreNotTold}
 use Rattle.mon_engine.specs.Step.{acted, step}
 use Rattle.mon_engine.proofs.ByClockLemmas.{ready_says, clock_cases, clock_more, clock_up, clock_back}
-use Rattle.mon_engine.proofs.NewsLemmas.{More, more_after}
+use Rattle.mon_engine.proofs.EndLemmas.{IsLeft, IsRecovery, ends_leave, ends_more, owing_leaves, step_notices}
+use Rattle.mon_engine.proofs.NewsLemmas.{More, more_after, more_weaker}
 use Rattle.mon_engine.proofs.RepeatLemmas.{problem_says}
 use Rattle.mon_engine.proofs.ToldLemmas.{IsOpenTo, viable_open, problem_viable_as, first_settled, acted_tells}
 
@@ -79,18 +81,57 @@ module _ (inv : Configuration) (v : World) where
         settled = λ first service. first_settled inv v Clock k spec o opened.settled first service;
       }
 
+-- what is left of all but notices and ends suppresses the same
+left_unsuppressed : (inv : Configuration) (w v : World) (s : Subject) → IsLeft w v → IsUnsuppressed inv w s → IsUnsuppressed inv v s
+left_unsuppressed inv w v s is h = subst (λ (x : World). IsUnsuppressed inv x s) (sym is) (record {
+  spec = h.spec;
+  of = h.of;
+  known = h.known;
+  there = h.there;
+  unacknowledged = h.unacknowledged;
+  depth = h.depth;
+  host_depth = h.host_depth;
+  object_on = h.object_on;
+  program_on = h.program_on;
+  hard = h.hard;
+  letter_on = h.letter_on;
+  not_delayed = h.not_delayed;
+  old = h.old;
+  host_up = h.host_up;
+  settled = h.settled;
+})
+
 pub suppressed_problems_are_not_told : (each : WhatIsDueHappens) (done : NothingIsLeft) → SuppressedProblemsAreNotTold
 unfolding step
-suppressed_problems_are_not_told each done inv w e = clock_cases inv v (λ (u : World). u ≡ told_by_clock inv v → TellsOfProblems inv w u) (λ is. by_act)
-    (λ u tells is. (let Fine = λ (n : Notice). n.subject.word ≡ Problem → IsUnsuppressed inv u n.subject in
-    let Before = λ (n : Notice). n.subject.word ≡ Problem → IsUnsuppressed inv v n.subject in
-    let first : More Fine w.notices v.notices = (by_act.new, by_act.behind, All-weaker Before Fine (λ n h word. still_unsuppressed inv v u n.subject is tells (h word)) by_act.new by_act.problems) in
-    let more = more_after Fine w.notices v.notices u.notices first (clock_more inv v u Fine tells (λ k n ready word. still_unsuppressed inv v u n.subject is tells (ready_unsuppressed inv v k n ready))) in
-    record { new = more.0; behind = more.1; problems = more.2 }))
-    refl
+suppressed_problems_are_not_told each done inv w e = (let all = by_clock in record {
+  new = all.0;
+  behind = step_notices inv w e ∙ all.1;
+  problems = All-weaker (Fine (told_by_clock inv m)) (Fine s) (λ n h word. left_unsuppressed inv (told_by_clock inv m) s n.subject left (h word)) all.0 all.2;
+})
   where
     v : World
     v = (acted inv w e).0
 
+    m : World
+    m = told_ends inv v
+
+    s : World
+    s = (step inv w e).0
+
+    left : IsLeft (told_by_clock inv m) s
+    left = (let is = owing_leaves inv (length w.notices) (told_by_clock inv m) in is ∙ ap (λ (ns : List Notice). record (told_by_clock inv m) { notices = ns; owed = s.owed }) (sym (ap (λ (x : World). x.notices) is)))
+
+    Fine : World → Notice → Type 0
+    Fine x n = n.subject.word ≡ Problem → IsUnsuppressed inv x n.subject
+
     by_act : TellsOfProblems inv w v
     by_act = acted_tells each done inv w e
+
+    before : More (Fine m) w.notices m.notices
+    before = more_after (Fine m) w.notices v.notices m.notices (by_act.new, by_act.behind, All-weaker (Fine v) (Fine m) (λ n h word. left_unsuppressed inv v m n.subject (ends_leave inv v) (h word)) by_act.new by_act.problems)
+        (more_weaker IsRecovery (Fine m) v.notices m.notices (λ n is word. absurd (let same = sym is ∙ word in cc)) (ends_more inv v))
+
+    by_clock : More (Fine (told_by_clock inv m)) w.notices (told_by_clock inv m).notices
+    by_clock = clock_cases inv m (λ (u : World). u ≡ told_by_clock inv m → More (Fine u) w.notices u.notices) (λ is. before)
+        (λ u tells is. (let first : More (Fine u) w.notices m.notices = (before.0, before.1, All-weaker (Fine m) (Fine u) (λ n h word. still_unsuppressed inv m u n.subject is tells (h word)) before.0 before.2) in
+        more_after (Fine u) w.notices m.notices u.notices first (clock_more inv m u (Fine u) tells (λ k n ready word. still_unsuppressed inv m u n.subject is tells (ready_unsuppressed inv m k n ready))))) refl

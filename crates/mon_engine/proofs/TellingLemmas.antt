@@ -16,13 +16,13 @@ use Rattle.mon_engine.specs.Effects.{Act, act, named}
 use Rattle.mon_engine.specs.Laws.{moment_of}
 use Rattle.mon_engine.specs.Results.{with_result, with_started, after_check_result}
 use Rattle.mon_checks.specs.States.{change_by}
-use Rattle.mon_engine.specs.Step.{settled, closed_at, counted, acted, step, meaning_from}
+use Rattle.mon_engine.specs.Step.{settled, closed_at, counted, step, meaning_from}
 use Rattle.mon_engine.specs.Report.{rejected_line, notice_line}
 use Rattle.mon_engine.specs.Telling.{Telling, telling_line, told_text, entry_text, told_on, TellingGoesOn, OfRejection, OfNotice, is_clock, news, news_between, tellings, forgotten, notices_of, rejections_of, ForgettingTellsTheSame, EachNoticeIsTold, EachRejectionIsTold}
 use Rattle.mon_engine.proofs.ActLemmas.{act_leaves, check_result_cases, noticed_leaves, started_leaves}
-use Rattle.mon_engine.proofs.ByClockLemmas.{clock_leaves}
 use Rattle.mon_engine.proofs.EntryLemmas.{entry_cases, found, advanced_leaves}
 use Rattle.mon_engine.proofs.ForgottenLemmas.{the_lists_are_not_read}
+use Rattle.mon_engine.proofs.EndLemmas.{step_leaves}
 
 -- ---- what an entry adds
 
@@ -138,8 +138,7 @@ abbrev AreTold : Option ℕ → (sender : ℕ) → List Rejection → Type 0
 AreTold clock sender rs = others clock rs ≡ (if is_clock clock sender then [] else rs)
 
 added_are_told : (inv : Configuration) (clock : Option ℕ) (w : World) (e : Entry) → AreTold clock e.sender (alone inv w e).rejections
-unfolding step
-added_are_told inv clock w e = subst (AreTold clock e.sender) (sym (ap (λ (x : World). x.rejections) (clock_leaves inv (acted inv (forgotten w) e).0))) (entry_cases inv (forgotten w) e (λ p. AreTold clock e.sender p.0.rejections)
+added_are_told inv clock w e = subst (AreTold clock e.sender) (sym (ap (λ (x : World). x.rejections) (step_leaves inv (forgotten w) e))) (entry_cases inv (forgotten w) e (λ p. AreTold clock e.sender p.0.rejections)
     (λ why. subst (AreTold clock e.sender) (sym (refused why)) (one (record { sender = e.sender; place = e.place; reason = why }) (is_clock clock e.sender)))
     (λ a b n h. subst (AreTold clock e.sender) (sym (done b ∙ act_rejects_nobody inv (found inv (forgotten w) e) b a h ∙ none_before)) (none (is_clock clock e.sender))))
   where

@@ -31,7 +31,7 @@ use Rattle.mon_engine.specs.DowntimeLaws.{KeepsItsTime, DowntimesKeepTheirTime}
 use Rattle.mon_engine.proofs.ActLemmas.{started_leaves, noticed_leaves, check_result_cases, act_leaves}
 use Rattle.mon_engine.proofs.ClockLemmas.{drained_keeps, nothing_is_left}
 use Rattle.mon_engine.proofs.DowntimeLemmas.{OnlyFates, changed_only, started_only, cancelled_only, waits_as}
-use Rattle.mon_engine.proofs.ByClockLemmas.{clock_leaves}
+use Rattle.mon_engine.proofs.EndLemmas.{step_leaves}
 use Rattle.mon_engine.proofs.EntryLemmas.{found, found_clock, advanced_leaves, entry_cases}
 use Rattle.mon_engine.proofs.FoundLemmas.{known_downtime}
 use Rattle.mon_engine.proofs.IdLemmas.{AreIds, each_found, mapped_ids, more_ids, mapped_record, more_record}
@@ -265,12 +265,11 @@ acted_clock inv w e = entry_cases inv w e (λ p. p.0.clock ≡ moment_of w e)
     closes_clock : (u : World) → u.clock ≡ moment_of w e → (advanced inv u (moment_of w e)).clock ≡ moment_of w e
     closes_clock u clock = ap (λ (x : World). x.clock) (advanced_leaves inv u (moment_of w e)) ∙ omega arith
 
--- neither the clock nor the downtimes change where the clock tells
+-- neither the clock nor the downtimes change where what stands is told
 pub step_on_time : StartsAreInTime → records.NothingIsLeft → (inv : Configuration) (w : World) (e : Entry) → IsOnTime w → IsOnTime (step inv w e).0
-unfolding step
 step_on_time in_time done inv w e h =
     let acts = acted_on_time in_time done inv w e h in
-    subst IsOnTime (sym (clock_leaves inv (acted inv w e).0)) (record { entered = acts.entered; begun = acts.begun; idle = acts.idle })
+    subst IsOnTime (sym (step_leaves inv w e)) (record { entered = acts.entered; begun = acts.begun; idle = acts.idle })
 
 meant_on_time : StartsAreInTime → records.NothingIsLeft → (inv : Configuration) (w : World) (journal : List Entry) → IsOnTime w → IsOnTime (meaning_from inv w journal)
 unfolding meaning_from
@@ -337,8 +336,7 @@ downtimes_keep_their_time in_time to_come done inv journal d there = keeps_time 
 -- ---- after an entry
 
 pub nothing_is_due : (done : records.NothingIsLeft) → NothingIsDue
-unfolding step
-nothing_is_due done inv w e = ap (λ (x : World). due_in x x.clock) (clock_leaves inv v) ∙ ap (due_in v) (acted_clock inv w e) ∙ left
+nothing_is_due done inv w e = ap (λ (x : World). due_in x x.clock) (step_leaves inv w e) ∙ ap (due_in v) (acted_clock inv w e) ∙ left
   where
     v : World
     v = (acted inv w e).0

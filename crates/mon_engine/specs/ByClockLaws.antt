@@ -3,7 +3,7 @@ use Rattle.std.specs.Prelude.{◌≡◌, ◌≢◌, ℕ, ◌==◌, true, false, 
 use Rattle.std.specs.List.{flat_map, range_with_len}
 use Rattle.cmd_types.specs.declared.entry.Entry.{Entry}
 use Rattle.mon_inventory.specs.declared.records.ObjectSpec.{ObjectSpec}
-use Rattle.mon_inventory.specs.Configuration.{Configuration, tells_by_clock}
+use Rattle.mon_inventory.specs.Configuration.{Configuration, recovers_the_told, tells_by_clock}
 use Rattle.mon_engine.specs.declared.notices.Occasion.TheVariants.{Clock}
 use Rattle.mon_engine.specs.declared.notice.Notice.{Notice}
 use Rattle.mon_engine.specs.declared.object.Object.{Object}
@@ -49,9 +49,9 @@ pub record TellsWhatIsReady (inv : Configuration) (w w' : World) : Type 0 where
 abbrev pub TheClockTellsWhatIsReady : Type 0
 TheClockTellsWhatIsReady = (inv : Configuration) (w : World) → tells_by_clock inv ≡ true → TellsWhatIsReady inv w (told_by_clock inv w)
 
--- without it an entry is what it does
+-- without it, and without the option `recover_the_told`, an entry is what it does
 abbrev pub NothingIsToldByTheClock : Type 0
-NothingIsToldByTheClock = (inv : Configuration) (w : World) (e : Entry) → tells_by_clock inv ≡ false → step inv w e ≡ acted inv w e
+NothingIsToldByTheClock = (inv : Configuration) (w : World) (e : Entry) → tells_by_clock inv ≡ false → recovers_the_told inv ≡ false → step inv w e ≡ acted inv w e
 
 -- ---- nobody is forgotten
 

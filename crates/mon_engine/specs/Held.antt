@@ -17,7 +17,7 @@ pub record Held : Type 0 where
   pub broken : Bool
 
 -- what holds of a monitor: while it is not broken, its world is one that entries lead to, and counts those applied, and no
--- object is ready before the moment that it keeps
+-- object has anything to be told before the moment that it keeps
 abbrev pub IsHeld : Configuration → World → ℕ → Bool → (quiet : Option ℕ) → Type 0
 IsHeld inv w applied broken quiet = IsInventory inv × (broken ≡ false → IsWorld inv w × (w.entries ≡ applied) × IsQuiet inv w quiet)
 

@@ -11,6 +11,8 @@ pub mod Acknowledgements
 pub mod Downtimes
 pub mod Clock
 pub mod Effects
+pub mod Ends
+pub mod Owed
 pub mod Step
 pub mod Words
 pub mod Report
@@ -25,9 +27,11 @@ pub mod Held
 pub mod Figures
 pub mod Laws
 pub mod Withheld
+pub mod WithheldLaws
 pub mod Status
 pub mod NoticeLaws
 pub mod ByClockLaws
+pub mod EndLaws
 pub mod Wakes
 pub mod DowntimeLaws
 pub mod TouchLaws

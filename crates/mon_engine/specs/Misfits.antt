@@ -8,6 +8,7 @@ use Rattle.mon_downtime.specs.Records.{IsRecord}
 use Rattle.mon_inventory.specs.declared.limits.TheConstants.{MOST_OBJECTS}
 use Rattle.mon_inventory.specs.declared.records.ObjectSpec.{ObjectSpec}
 use Rattle.mon_inventory.specs.Configuration.{Configuration}
+use Rattle.mon_engine.specs.declared.ends.Owed.{Owed}
 use Rattle.mon_engine.specs.declared.object.Object.{Object}
 use Rattle.mon_engine.specs.declared.parts.Misfit.{Misfit}
 use Rattle.mon_engine.specs.declared.parts.Misfit.TheVariants as part
@@ -15,20 +16,28 @@ use Rattle.mon_engine.specs.declared.parts.ResumeFault.{ResumeFault}
 use Rattle.mon_engine.specs.declared.parts.ResumeFault.TheVariants as fault
 use Rattle.mon_engine.specs.declared.state.TheConstants.{GREATEST_BEFORE}
 use Rattle.mon_engine.specs.World.{World}
-use Rattle.mon_engine.specs.Saved.{IsSaidComment, IsSaidDowntime, Fits}
+use Rattle.mon_engine.specs.Saved.{IsSaidComment, IsSaidDowntime, Fits, IsOwedFit}
 
 -- ---- what fits
 
--- an object and its line of the inventory: both are there and the object fits the line, or neither is there
-abbrev pub FitsLine : (before : ℕ) → Option ObjectSpec → Option Object → Type 0
-FitsLine before None None = Unit {0}
-FitsLine before None (Some o) = ⊥
-FitsLine before (Some spec) None = ⊥
-FitsLine before (Some spec) (Some o) = Fits before spec o
+-- what is known of an object, and its line of the inventory: both are there and the one fits the other, or neither is there
+abbrev pub FitsLine : {A : Type 0} → (ObjectSpec → A → Type 0) → Option ObjectSpec → Option A → Type 0
+FitsLine fits None None = Unit {0}
+FitsLine fits None (Some o) = ⊥
+FitsLine fits (Some spec) None = ⊥
+FitsLine fits (Some spec) (Some o) = fits spec o
+
+-- what is known at this index fits the line at this index
+abbrev pub FitsAt : {A : Type 0} → (ObjectSpec → A → Type 0) → List ObjectSpec → List A → (place : ℕ) → Type 0
+FitsAt fits specs known place = FitsLine fits (slice_get specs place) (slice_get known place)
 
 -- the object at this index fits the line at this index
 abbrev pub ObjectFits : (before : ℕ) → List ObjectSpec → List Object → (place : ℕ) → Type 0
-ObjectFits before specs os place = FitsLine before (slice_get specs place) (slice_get os place)
+ObjectFits before specs os place = FitsAt (Fits before) specs os place
+
+-- who is owed the end at this index fits the inventory and the line at this index
+abbrev pub OwedFits : Configuration → (before : ℕ) → List Owed → (place : ℕ) → Type 0
+OwedFits inv before owed place = FitsAt (λ spec x. IsOwedFit inv before x) inv.objects owed place
 
 -- the comment at this index, if there is one, comes after the one before it, is of one of so many objects, and a
 -- command can have said it
@@ -51,6 +60,7 @@ PartFits inv w part.LastComment = w.notes.last_id ≤ w.before
 PartFits inv w (part.Comment place) = CommentFits (length inv.objects) w.notes place
 PartFits inv w part.Downtimes = length w.downtimes ≤ MOST_OBJECTS * w.before
 PartFits inv w (part.Downtime place) = DowntimeFits (length inv.objects) w.downtimes place
+PartFits inv w (part.Owed place) = OwedFits inv w.before w.owed place
 
 -- ---- which is the first
 
@@ -64,6 +74,7 @@ rank part.LastComment = 4
 rank (part.Comment place) = 5
 rank part.Downtimes = 6
 rank (part.Downtime place) = 7
+rank (part.Owed place) = 8
 
 -- the index of a part among those of its kind
 abbrev pub index : Misfit → ℕ
@@ -75,6 +86,7 @@ index part.LastComment = 0
 index (part.Comment place) = place
 index part.Downtimes = 0
 index (part.Downtime place) = place
+index (part.Owed place) = place
 
 -- a part stands before another: it is of an earlier kind, or of the same kind at a lower index
 abbrev pub IsBefore : (earlier later : Misfit) → Type 0

@@ -5,7 +5,7 @@ use Rattle.mon_downtime.specs.Records.{depth_of}
 use Rattle.mon_downtime.specs.Problem.{all_waiting}
 use Rattle.mon_inventory.specs.declared.records.ContactSpec.{ContactSpec}
 use Rattle.mon_inventory.specs.declared.records.ObjectSpec.{ObjectSpec}
-use Rattle.mon_inventory.specs.Configuration.{Configuration, directives_at}
+use Rattle.mon_inventory.specs.Configuration.{Configuration, directives_at, recovers_the_told}
 use Rattle.mon_notify.specs.declared.contacts.ContactSwitch.{ContactSwitch}
 use Rattle.mon_notify.specs.declared.letter.Letter.{Letter}
 use Rattle.mon_notify.specs.declared.letter.Letter.TheVariants as letter
@@ -26,6 +26,7 @@ use Rattle.mon_engine.specs.declared.objects.Setting.TheVariants as settings
 use Rattle.mon_engine.specs.declared.outcome.Outcome.{Outcome}
 use Rattle.mon_engine.specs.declared.outcome.Outcome.TheVariants.{Applied}
 use Rattle.mon_engine.specs.Objects.{is_acknowledged, host_is_up, back_since}
+use Rattle.mon_engine.specs.Notices.{is_problem_word}
 use Rattle.mon_engine.specs.World.{World}
 use Rattle.mon_engine.specs.Clock.{advanced}
 use Rattle.mon_engine.specs.Effects as acts
@@ -220,6 +221,8 @@ pub record IsRecoveryToTell (inv : Configuration) (w : World) (t object : ℕ) (
   pub problem : before.status.code ≢ 0
   pub hard : before.status.hard ≡ true
   pub numbered : 0 < before.number
+  -- with the option the end goes to those who were notified of the problem
+  pub without : recovers_the_told inv ≡ false
   pub program_on : w.program.notifications ≡ true
   pub object_on : before.notify ≡ true
   pub letter_on : spec.letters.r ≡ true
@@ -282,11 +285,6 @@ NoProblemIsToldTwice = (inv : Configuration) (w : World) (first last : Entry) (b
     Contains (went_out (meaning_from inv (step inv w first).0 between) (step inv (meaning_from inv (step inv w first).0 between) last).0) n → IsProblemOf object code n.subject →
     IsIntervalLater inv object code m.subject n.subject
     ⊎ IsVolatileResult inv object last (step inv (meaning_from inv (step inv w first).0 between) last).1
-
--- the word is PROBLEM
-abbrev pub is_problem_word : Word → Bool
-is_problem_word words.Problem = true
-is_problem_word word = false
 
 -- what one entry does sends one PROBLEM at most
 abbrev pub OneProblemAnEntry : Type 0

@@ -1,9 +1,9 @@
 -- Notices: which go out, which contacts they reach, and the state of their object afterwards.
-use Rattle.std.specs.Prelude.{ℕ, ◌+◌, ◌==◌, ◌&&◌, nat_lt, Bool, true, false, if◌then◌else◌, List, ◌++◌, length, Option, Some, None, slice_get, option_to_list}
+use Rattle.std.specs.Prelude.{ℕ, ◌+◌, ◌==◌, ◌&&◌, not, nat_lt, Bool, true, false, if◌then◌else◌, List, ◌++◌, length, Option, Some, None, slice_get, option_to_list}
 use Rattle.mon_checks.specs.declared.transition.Change.{Change}
 use Rattle.mon_downtime.specs.Records.{depth_of}
 use Rattle.mon_inventory.specs.declared.records.ObjectSpec.{ObjectSpec}
-use Rattle.mon_inventory.specs.Configuration.{Configuration, directives_at}
+use Rattle.mon_inventory.specs.Configuration.{Configuration, directives_at, recovers_the_told}
 use Rattle.mon_notify.specs.declared.contacts.ContactSwitch.{ContactSwitch}
 use Rattle.mon_notify.specs.declared.facts.Facts.{Facts}
 use Rattle.mon_notify.specs.declared.letter.Letter.{Letter}
@@ -24,6 +24,11 @@ use Rattle.mon_engine.specs.declared.notice.Word.TheVariants as words
 use Rattle.mon_engine.specs.Places.{changed_at}
 use Rattle.mon_engine.specs.Objects.{is_service, is_acknowledged, host_is_up, back_since, after_told, custom_number, with_setting, reset}
 use Rattle.mon_engine.specs.World.{World}
+
+-- the word is PROBLEM
+abbrev pub is_problem_word : Word → Bool
+is_problem_word words.Problem = true
+is_problem_word word = false
 
 -- ---- one notice
 
@@ -130,10 +135,11 @@ with_problem w object (Some n) = record (told w (Some n)) { objects = changed_at
 abbrev pub recovery_notice_by : Configuration → World → (object : ℕ) → Object → (may : Bool) → Option Notice
 recovery_notice_by inv w object o may = if may then addressed inv w.contacts (subject_of w.clock words.Recovery object o o.number) letter.R true else None
 
--- the notice of the object's recovery, where it may go out; its contacts go by the number itself and the letter r
+-- the notice of the object's recovery, where it may go out; its contacts go by the number itself and the letter r. With
+-- the option `recover_the_told` a result tells of no recovery
 unfoldable pub recovery_notice : Configuration → World → (object : ℕ) → (hard_recovery : Bool) → ObjectSpec → Object → Option Notice
 recovery_notice inv w object hard_recovery spec o =
-    recovery_notice_by inv w object o (hard_recovery && recovery_viable (facts inv w object spec o letter.R))
+    recovery_notice_by inv w object o (hard_recovery && not (recovers_the_told inv) && recovery_viable (facts inv w object spec o letter.R))
 
 -- after a recovery, notified or not, the count begins anew
 abbrev pub with_recovery : World → (object : ℕ) → Option Notice → World

@@ -1,5 +1,5 @@
 -- A world that is written and read back, and the world from which a monitor then resumes.
-use Rattle.std.specs.Prelude.{◌≡◌, ℕ, ◌+◌, ◌*◌, ◌<◌, ◌≤◌, List, [], IfSome, All}
+use Rattle.std.specs.Prelude.{◌≡◌, ℕ, false, ◌+◌, ◌*◌, ◌<◌, ◌≤◌, List, [], length, IfSome, All}
 use Rattle.cmd_types.specs.declared.limits.TheConstants.{GREATEST_NUMBER}
 use Rattle.cmd_types.specs.Bytes.{Lacks}
 use Rattle.mon_checks.specs.States.{IsCodeOf}
@@ -8,10 +8,12 @@ use Rattle.mon_notes.specs.Comments.{IsCommentList}
 use Rattle.mon_downtime.specs.declared.downtime.Downtime.{Downtime}
 use Rattle.mon_downtime.specs.Records.{AreRecords}
 use Rattle.mon_inventory.specs.declared.records.ObjectSpec.{ObjectSpec}
-use Rattle.mon_inventory.specs.Configuration.{Configuration}
+use Rattle.mon_inventory.specs.Configuration.{Configuration, recovers_the_told}
+use Rattle.mon_engine.specs.declared.ends.Owed.{Owed}
 use Rattle.mon_engine.specs.declared.object.Object.{Object}
 use Rattle.mon_engine.specs.declared.object.Moments.{Moments}
 use Rattle.mon_engine.specs.declared.state.TheConstants.{GREATEST_BEFORE}
+use Rattle.mon_engine.specs.Owed.{nobody}
 use Rattle.mon_engine.specs.World.{World}
 use Rattle.mon_engine.specs.Sound.{IsObjectState, ever, IsWorld}
 
@@ -58,6 +60,12 @@ pub record Fits (before : ℕ) (spec : ObjectSpec) (o : Object) : Type 0 where
   pub state : IsObjectState spec o
   pub number : o.number ≤ GREATEST_NUMBER + 2 * before
   pub said : IsSaidObject o
+
+-- who is owed an end fits the inventory after this number of entries
+pub record IsOwedFit (inv : Configuration) (before : ℕ) (x : Owed) : Type 0 where
+  pub within : All (λ c. c < length inv.contacts) x.contacts
+  pub number : x.number ≤ GREATEST_NUMBER + 2 * before
+  pub without : recovers_the_told inv ≡ false → x ≡ nobody
 
 -- ---- what is written and read back
 

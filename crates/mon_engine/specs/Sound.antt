@@ -1,15 +1,17 @@
 -- The conditions that hold of each world that entries of a journal lead to, for one inventory.
-use Rattle.std.specs.Prelude.{◌≡◌, ℕ, ◌+◌, ◌*◌, ◌<◌, ◌≤◌, List, length, Some, is_some, slice_get, All}
+use Rattle.std.specs.Prelude.{◌≡◌, ℕ, false, ◌+◌, ◌*◌, ◌<◌, ◌≤◌, List, length, Some, is_some, slice_get, All}
 use Rattle.cmd_types.specs.declared.limits.TheConstants.{GREATEST_NUMBER}
 use Rattle.mon_checks.specs.States.{IsWithin}
 use Rattle.cmd_journal.specs.declared.journal.TheConstants.{GREATEST_LIMIT}
 use Rattle.mon_inventory.specs.declared.limits.TheConstants.{MOST_OBJECTS}
 use Rattle.mon_inventory.specs.declared.records.ObjectSpec.{ObjectSpec}
-use Rattle.mon_inventory.specs.Configuration.{Configuration}
+use Rattle.mon_inventory.specs.Configuration.{Configuration, recovers_the_told}
+use Rattle.mon_engine.specs.declared.ends.Owed.{Owed}
 use Rattle.mon_engine.specs.declared.object.Object.{Object}
 use Rattle.mon_engine.specs.declared.notice.Notice.{Notice}
 use Rattle.mon_engine.specs.declared.state.TheConstants.{GREATEST_BEFORE}
 use Rattle.mon_engine.specs.Objects.{is_service, is_of_hard_problem}
+use Rattle.mon_engine.specs.Owed.{nobody}
 use Rattle.mon_engine.specs.World.{World}
 
 -- the state of an object with this line of the inventory
@@ -31,12 +33,20 @@ pub record IsNoticeOf (inv : Configuration) (notice : Notice) : Type 0 where
   pub object : notice.subject.object < length inv.objects
   pub contacts : All (λ c. c < length inv.contacts) notice.contacts
 
+-- each object has its own who are owed its end, and they are in the inventory
+pub record IsOwing (inv : Configuration) (owed : List Owed) : Type 0 where
+  pub as_many : length owed ≡ length inv.objects
+  pub within : All (λ x. All (λ c. c < length inv.contacts) x.contacts) owed
+
 -- what holds of a world after n entries, those before it went on included, that raised a notification number m times at
 -- most; each bound that grows goes by these
 pub record IsWorldAt (inv : Configuration) (n m : ℕ) (w : World) : Type 0 where
   pub clock : w.clock ≤ GREATEST_NUMBER
   pub states : AreObjectStates m inv.objects w.objects
   pub contacts : length w.contacts ≡ length inv.contacts
+  pub owing : IsOwing inv w.owed
+  pub ends : All (λ x. x.number ≤ GREATEST_NUMBER + m) w.owed
+  pub without : recovers_the_told inv ≡ false → All (λ x. x ≡ nobody) w.owed
   pub comments : w.notes.last_id ≤ n
   pub noted : All (λ c. c.object < length inv.objects) w.notes.comments
   pub downtimes : length w.downtimes ≤ MOST_OBJECTS * n

@@ -1,8 +1,8 @@
--- What the clock need not look at: the moment before which the next PROBLEM of an object is not ready, unless something
--- but the clock changes, and the objects for which an entry may change something.
-use Rattle.std.specs.Prelude.{◌≡◌, ℕ, ◌+◌, ◌<◌, ◌≤◌, ◌==◌, ◌&&◌, ◌||◌, not, Bool, true, false, if◌then◌else◌, max, min, length, Option, Some, None, unwrap_or, slice_get}
+-- What need not be looked at after an entry: the moment before which nothing is told of what stands, unless something but
+-- the clock changes, and the objects for which an entry may change something.
+use Rattle.std.specs.Prelude.{◌≡◌, ℕ, ◌+◌, ◌<◌, ◌≤◌, ◌==◌, ◌&&◌, ◌||◌, not, nat_lt, Bool, true, false, if◌then◌else◌, max, min, length, Option, Some, None, unwrap_or, slice_get}
 use Rattle.mon_inventory.specs.declared.records.ObjectSpec.{ObjectSpec}
-use Rattle.mon_inventory.specs.Configuration.{Configuration, tells_by_clock}
+use Rattle.mon_inventory.specs.Configuration.{Configuration, recovers_the_told, tells_by_clock}
 use Rattle.mon_notify.specs.declared.facts.Facts.{Facts}
 use Rattle.mon_downtime.specs.Records.{depth_of}
 use Rattle.mon_notify.specs.Viable.{is_open, is_of_code, problem_viable}
@@ -14,16 +14,22 @@ use Rattle.mon_engine.specs.declared.notices.Occasion.TheVariants.{Clock}
 use Rattle.mon_engine.specs.declared.object.Object.{Object}
 use Rattle.mon_engine.specs.Objects.{is_up, back_since}
 use Rattle.mon_engine.specs.World.{World}
-use Rattle.mon_engine.specs.Notices.{of_object, problem_facts}
+use Rattle.mon_engine.specs.Notices.{of_object, problem_facts, told_problem}
 use Rattle.mon_engine.specs.ByClockLaws.{ready_notice}
+use Rattle.mon_engine.specs.Ends.{is_end_due, owed_at, told_end, week}
 use Rattle.mon_engine.specs.Effects as acts
 use Rattle.mon_engine.specs.Effects.{Act}
 use Rattle.mon_engine.specs.NoticeLaws.{is_service_at}
 
--- without the option no moment is kept; with it no object is ready before this moment, whatever the clock
+-- nothing is told of this object after an entry: its problem is not ready, and its end is not due
+pub record IsIdle (inv : Configuration) (w : World) (object : ℕ) : Type 0 where
+  pub problem : tells_by_clock inv ≡ true → ready_notice inv w object ≡ None
+  pub ending : recovers_the_told inv ≡ true → is_end_due inv w object ≡ false
+
+-- without the options no moment is kept; with one of them nothing is told of any object before this moment
 abbrev pub IsQuiet : Configuration → World → (until : Option ℕ) → Type 0
-IsQuiet inv w None = tells_by_clock inv ≡ false
-IsQuiet inv w (Some until) = (tells_by_clock inv ≡ true) × ((k c : ℕ) → w.clock ≤ c → c < until → ready_notice inv (record w { clock = c }) k ≡ None)
+IsQuiet inv w None = (tells_by_clock inv ≡ false) × (recovers_the_told inv ≡ false)
+IsQuiet inv w (Some until) = (k c : ℕ) → w.clock ≤ c → c < until → IsIdle inv (record w { clock = c }) k
 
 -- ---- of private contracts alone
 
@@ -59,9 +65,26 @@ wakes_by f = if not (is_steady f) || problem_viable f then NEVER else max (max (
 abbrev pub wakes_of : Configuration → World → (object : ℕ) → ObjectSpec → Object → ℕ
 wakes_of inv w object spec o = if o.status.code == 0 then NEVER else wakes_by (problem_facts inv w Clock object spec o)
 
--- the moment from which the object of this index may be ready, where it is not now and nothing but the clock changes
+-- the moment from which an end is no news, where some are owed it
+abbrev pub stale_from : World → (object : ℕ) → Object → ℕ
+stale_from w object o = if (o.status.code == 0) && nat_lt 0 (length (owed_at w object).contacts) then min (o.moments.changed + week) NEVER else NEVER
+
+-- the moment from which something of the object of this index may be told, where nothing is now and nothing but the
+-- clock changes
 unfoldable pub wakes : Configuration → World → (object : ℕ) → ℕ
-wakes inv w object = of_object NEVER (wakes_of inv w object) (slice_get inv.objects object) (slice_get w.objects object)
+wakes inv w object = of_object NEVER (λ spec o. min (wakes_of inv w object spec o) (stale_from w object o)) (slice_get inv.objects object) (slice_get w.objects object)
+
+-- ---- one object
+
+-- what is to be told of one object: its end, and then its problem
+abbrev pub end_told : (on : Bool) → Configuration → World → (object : ℕ) → World
+end_told on inv w object = if on then told_end inv w object else w
+
+abbrev pub problem_told : (on : Bool) → Configuration → World → (object : ℕ) → World
+problem_told on inv w object = if on then told_problem inv Clock w object else w
+
+abbrev pub told_one : Configuration → World → (object : ℕ) → World
+told_one inv w object = problem_told (tells_by_clock inv) inv (end_told (recovers_the_told inv) inv w object) object
 
 -- ---- which
 
@@ -99,11 +122,16 @@ IsTouchable inv (touched.One x) = x < length inv.objects
 IsTouchable inv (touched.Host x before) = x < length inv.objects
 IsTouchable inv touched.All = Unit {0}
 
--- the objects that are not touched are ready for the same in both worlds, at any clock
+-- of this object the same is to be told in both worlds
+pub record IsAsReady (inv : Configuration) (before after : World) (object : ℕ) : Type 0 where
+  pub problem : ready_notice inv after object ≡ ready_notice inv before object
+  pub ending : is_end_due inv after object ≡ is_end_due inv before object
+
+-- of the objects that are not touched the same is to be told in both worlds, at any clock
 abbrev pub Covers : Configuration → (before after : World) → Touched → Type 0
-Covers inv before after t = (k : ℕ) → Untouched after t k → (c : ℕ) → ready_notice inv (record after { clock = c }) k ≡ ready_notice inv (record before { clock = c }) k
+Covers inv before after t = (k : ℕ) → Untouched after t k → (c : ℕ) → IsAsReady inv (record before { clock = c }) (record after { clock = c }) k
 
 -- as `IsQuiet`, but for the touched objects
 abbrev pub IsQuietBut : Configuration → World → Touched → (until : Option ℕ) → Type 0
-IsQuietBut inv w t None = tells_by_clock inv ≡ false
-IsQuietBut inv w t (Some until) = (tells_by_clock inv ≡ true) × ((k : ℕ) → Untouched w t k → (c : ℕ) → w.clock ≤ c → c < until → ready_notice inv (record w { clock = c }) k ≡ None)
+IsQuietBut inv w t None = (tells_by_clock inv ≡ false) × (recovers_the_told inv ≡ false)
+IsQuietBut inv w t (Some until) = (k : ℕ) → Untouched w t k → (c : ℕ) → w.clock ≤ c → c < until → IsIdle inv (record w { clock = c }) k

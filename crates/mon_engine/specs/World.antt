@@ -7,9 +7,11 @@ use Rattle.mon_inventory.specs.Configuration.{Configuration}
 use Rattle.mon_engine.specs.declared.object.Object.{Object}
 use Rattle.mon_engine.specs.declared.switches.Program.{Program}
 use Rattle.mon_notify.specs.declared.contacts.ContactSwitch.{ContactSwitch}
+use Rattle.mon_engine.specs.declared.ends.Owed.{Owed}
 use Rattle.mon_engine.specs.declared.outcome.Rejection.{Rejection}
 use Rattle.mon_engine.specs.declared.notice.Notice.{Notice}
 use Rattle.mon_engine.specs.Objects.{initial_object}
+use Rattle.mon_engine.specs.Owed.{initial_owed}
 
 pub record World : Type 0 where
   -- the greatest time of the entries so far, 0 at first
@@ -21,6 +23,8 @@ pub record World : Type 0 where
   pub objects : List Object
   pub program : Program
   pub contacts : List ContactSwitch
+  -- of each object who is owed the end of its problem
+  pub owed : List Owed
   -- in order of happening
   pub rejections : List Rejection
   -- in order of happening
@@ -43,6 +47,7 @@ initial inv = record {
   objects = map initial_object inv.objects;
   program = record { notifications = true; passive_host = true; passive_service = true };
   contacts = map initial_contact inv.contacts;
+  owed = map initial_owed inv.objects;
   rejections = [];
   notices = [];
   entries = 0;

@@ -1,22 +1,24 @@
-//! What the clock tells: after an entry each PROBLEM notice that nothing holds back, where the inventory has the option
-//! `tell_by_clock`. If memory runs out, a part of the notices was sent, and the monitor is then broken.
+//! What is told of what stands, after each entry: with the option `recover_the_told` each end, with the option
+//! `tell_by_clock` each PROBLEM notice that nothing holds back. If memory runs out, a part of the notices was sent, and
+//! the monitor is then broken.
 //!
-//! Not every object is looked at with each entry. The monitor keeps a moment before which no object is ready, so that
-//! up to then only the objects count that an entry touches.
+//! Not every object is looked at with each entry. The monitor keeps a moment before which nothing is told of any object,
+//! so that up to then only the objects count that an entry touches.
 ghost use Rattle.std.specs.Prelude.{◌≡◌, ℕ, ◌<◌, ◌≤◌, ◌-◌, ◌^◌, ◌||◌, IfOk, OnOk, Option, Some, None, Ok, is_some, if◌then◌else◌, length, slice_get};
 ghost use Rattle.mon_inventory.specs.Facts.{IsInventory};
 ghost use Rattle.mon_engine.specs.declared.object.Object.{Object};
-ghost use Rattle.mon_engine.specs.ByClock.{told_among, told_by_clock};
-ghost use Rattle.mon_engine.specs.ByClockLaws.{ready_notice};
+ghost use Rattle.mon_engine.specs.ByClock.{told_by_clock};
 ghost use Rattle.mon_engine.specs.Clock.{due_in};
 ghost use Rattle.mon_engine.specs.declared.by_clock.Touched.{Touched};
 ghost use Rattle.mon_engine.specs.Effects.{shown, Stands};
-ghost use Rattle.mon_engine.specs.Sound.{IsTellable};
-ghost use Rattle.mon_engine.specs.Step.{effect};
-ghost use Rattle.mon_engine.specs.Wakes.{due_from, gone_from, host_view, is_steady, settled_from, touches, wakes_by, wakes, Covers, IsQuiet, IsQuietBut, IsTouchable};
+ghost use Rattle.mon_engine.specs.Sound.{IsOwing, IsTellable};
+ghost use Rattle.mon_engine.specs.Step.{effect, stood};
+ghost use Rattle.mon_engine.specs.Wakes.{due_from, gone_from, host_view, is_steady, settled_from, stale_from, told_one, touches, wakes_by, wakes, Covers, IsQuiet, IsQuietBut, IsTouchable};
 
 use crate::act::{Act, asked};
+use crate::ends::NEWS_SECONDS;
 use crate::notices::Occasion;
+use crate::object::Object;
 use crate::results::back_since;
 use crate::state::State;
 use crate::target::find;
@@ -28,7 +30,7 @@ use std::alloc::Global;
 /// No moment: the greatest second that a number can hold.
 const NEVER: u64 = u64::MAX;
 
-/// What the tests of a service's PROBLEM notice read of its host: whether it is UP, its depth, and when it came back.
+/// What the tests of a service's notices read of its host: whether it is UP, its depth, and when it came back.
 #[derive(Clone, Copy)]
 pub struct HostView {
     up: bool,
@@ -37,7 +39,7 @@ pub struct HostView {
     back: Option<u64>,
 }
 
-/// The objects for which something but the clock may have changed that a PROBLEM notice is tested for.
+/// The objects for which something but the clock may have changed that a notice of what stands is tested for.
 #[derive(Clone, Copy)]
 pub enum Touched {
     Nothing,
@@ -115,18 +117,14 @@ fn wakes_by(facts: &Facts) -> u64
 }
 
 /// All objects where an event of a downtime has happened or is to, since it may change the depths of many; else these.
-pub fn unless_due(was_due: bool, is_due: bool, touched: Touched) -> Touched
-    ensures { result ≡ (if was_due || is_due then Touched.All else touched) }
+pub fn unless_due(is_due: bool, touched: Touched) -> Touched
+    ensures { result ≡ (if is_due then Touched.All else touched) }
 {
-    if was_due || is_due {
-        Touched::All
-    } else {
-        touched
-    }
+    if is_due { Touched::All } else { touched }
 }
 
 impl State {
-    /// What the tests of a service's PROBLEM notice read of this host.
+    /// What the tests of a service's notices read of this host.
     fn host_view(&self, host: u16) -> HostView
         requires { host < length self.now.objects }
         ensures { result ≡ host_view self.now host }
@@ -185,43 +183,91 @@ impl State {
         touched
     }
 
-    /// The second from which the object may be ready, where it is not now and nothing but the clock changes.
+    /// The second from which the end of the object's problem is no news; `NEVER` where it is not over or nobody is owed its
+    /// end.
+    fn stale_from(&self, object: u16, known: &Object) -> u64
+        requires { object < length self.now.owed }
+        ensures { result ≡ stale_from self.now object known.now }
+    {
+        if known.status.code != 0 || self.owed[object as usize].contacts.as_slice().is_empty() {
+            return NEVER;
+        }
+        known.moments.changed.saturating_add(NEWS_SECONDS)
+    }
+
+    /// The second from which something of the object may be told, where nothing is now and nothing but the clock changes.
     #[tactic(auto, unfolding(crate::specs::Wakes::wakes))]
     fn wakes(&self, inventory: &Inventory, object: u16) -> u64
         requires object { object < length inventory.now.objects }
         requires sound { IsInventory inventory.now }
         requires tellable { IsTellable inventory.now self.now }
+        requires owing { IsOwing inventory.now self.now.owed }
         ensures { result ≡ wakes inventory.now self.now object }
     {
         let found = self.found(inventory, object);
+        let stale = self.stale_from(object, found.state);
         if found.state.status.code == 0 {
-            return NEVER;
+            return stale;
         }
-        wakes_by(&self.problem_facts(inventory, found, Occasion::Clock))
+        wakes_by(&self.problem_facts(inventory, found, Occasion::Clock)).min(stale)
     }
 
-    /// Sends each PROBLEM notice that may go out, in order of the inventory, and returns the second before which no
-    /// object is ready again. If memory runs out, a part of the notices was sent.
-    fn tell_all(&mut self, alloc: Global, inventory: &Inventory) -> Result<u64, Memory>
+    /// Tells what is to be told of the object: its end with the option `recover_the_told`, its problem with the option
+    /// `tell_by_clock`. If memory runs out, a part of this may be done.
+    fn tell_one(&mut self, alloc: Global, inventory: &Inventory, object: u16) -> Result<(), Memory>
+        requires object { object < length inventory.now.objects }
+        requires sound { IsInventory inventory.now }
+        requires tellable { IsTellable inventory.now self.old }
+        requires owing { IsOwing inventory.now self.old.owed }
+        requires next { (k : ℕ) (o : Object) → slice_get self.old.objects k ≡ Some o → o.number < 2 ^ 64 - 1 }
+        ensures { OnOk result (self.new ≡ told_one inventory.now self.old object) }
+    {
+        if inventory.recovers_the_told() {
+            self.tell_end(alloc, inventory, object)?;
+        }
+        if inventory.tells_by_clock() {
+            self.tell_problem(alloc, inventory, object, Occasion::Clock)?;
+        }
+        Ok(())
+    }
+
+    /// Sends each PROBLEM notice that may go out, in order of the inventory; none without the option `tell_by_clock`. If
+    /// memory runs out, a part of the notices was sent.
+    #[tactic(auto, unfolding(crate::specs::ByClock::told_by_clock))]
+    fn tell_problems(&mut self, alloc: Global, inventory: &Inventory) -> Result<(), Memory>
         requires sound { IsInventory inventory.now }
         requires tellable { IsTellable inventory.now self.old }
         requires next { (k : ℕ) (o : Object) → slice_get self.old.objects k ≡ Some o → o.number < 2 ^ 64 - 1 }
-        ensures told { OnOk result (self.new ≡ told_among inventory.now self.old (length inventory.now.objects)) }
-        ensures quiet { IfOk result (λ until. (k c : ℕ) → self.new.clock ≤ c → c < until → ready_notice inventory.now (record self.new { clock = c }) k ≡ None) }
+        ensures { OnOk result (self.new ≡ told_by_clock inventory.now self.old) }
+    {
+        if !inventory.tells_by_clock() {
+            return Ok(());
+        }
+        for object in 0..inventory.object_count() {
+            self.tell_problem(alloc, inventory, object, Occasion::Clock)?;
+        }
+        Ok(())
+    }
+
+    /// The second before which nothing is told of any object, where nothing is now and nothing but the clock changes.
+    fn first_wake(&self, inventory: &Inventory) -> u64
+        requires sound { IsInventory inventory.now }
+        requires tellable { IsTellable inventory.now self.now }
+        requires owing { IsOwing inventory.now self.now.owed }
+        ensures { (k : ℕ) → k < length inventory.now.objects → result ≤ wakes inventory.now self.now k }
     {
         let mut until = NEVER;
         for object in 0..inventory.object_count() {
-            self.tell_problem(alloc, inventory, object, Occasion::Clock)?;
             until = until.min(self.wakes(inventory, object));
         }
-        Ok(until)
+        until
     }
 
-    /// Sends each PROBLEM notice that may go out, in order of the inventory; none without the option `tell_by_clock`,
-    /// and then `quiet` is `None`. Else `quiet` is the second before which no object is ready, but for those touched;
-    /// afterwards there are none of these. Up to that second only the touched are looked at. If memory runs out, a part
-    /// of the notices was sent.
-    pub fn tell_by_clock(
+    /// Tells what stands, in order of the inventory: with the option `recover_the_told` each end that may be told, then
+    /// with the option `tell_by_clock` each problem. Without both, `quiet` is `None` and nothing is told. Else `quiet` is
+    /// the second before which nothing is told, but for the objects touched; afterwards there are none of these. Up to
+    /// that second only the touched are looked at. If memory runs out, a part of the notices was sent.
+    pub fn tell_what_stands(
         &mut self,
         alloc: Global,
         inventory: &Inventory,
@@ -230,10 +276,11 @@ impl State {
     ) -> Result<(), Memory>
         requires sound { IsInventory inventory.now }
         requires tellable { IsTellable inventory.now self.old }
+        requires owing { IsOwing inventory.now self.old.owed }
         requires next { (k : ℕ) (o : Object) → slice_get self.old.objects k ≡ Some o → o.number < 2 ^ 64 - 1 }
         requires touchable { IsTouchable inventory.now touched }
         requires quiet { IsQuietBut inventory.now self.old touched quiet.old }
-        ensures told { OnOk result (self.new ≡ told_by_clock inventory.now self.old) }
+        ensures told { OnOk result (self.new ≡ stood inventory.now self.old) }
         ensures quiet { OnOk result (IsQuiet inventory.now self.new quiet.new) }
     {
         let until = match *quiet {
@@ -244,14 +291,16 @@ impl State {
             match self.narrowed(inventory, touched) {
                 Touched::Nothing => return Ok(()),
                 Touched::One(object) => {
-                    self.tell_problem(alloc, inventory, object, Occasion::Clock)?;
+                    self.tell_one(alloc, inventory, object)?;
                     *quiet = Some(until.min(self.wakes(inventory, object)));
                     return Ok(());
                 }
                 Touched::Host(_, _) | Touched::All => {}
             }
         }
-        *quiet = Some(self.tell_all(alloc, inventory)?);
+        self.tell_ends(alloc, inventory)?;
+        self.tell_problems(alloc, inventory)?;
+        *quiet = Some(self.first_wake(inventory));
         Ok(())
     }
 

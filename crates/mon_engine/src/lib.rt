@@ -11,6 +11,7 @@ mod custom_notices;
 mod downtime_lines;
 mod downtimes;
 mod effects;
+mod ends;
 mod figures;
 mod laws;
 mod lines;
@@ -36,6 +37,7 @@ mod telling;
 mod withheld;
 mod words;
 
+pub use ends::{Owed, first_owed, presumed_owed};
 pub use figures::Figures;
 pub use laws::{
     acknowledgements_stand, comments_stand, doubled_comments_show, downtimes_keep_their_time,
@@ -46,7 +48,7 @@ pub use lines::{Field, put_fields, put_line, put_word};
 pub use monitor::Monitor;
 pub use notice_laws::{
     a_problem_is_told, a_recovery_is_told, no_problem_is_told_twice, nobody_is_forgotten,
-    only_who_may_be_told_is_told, silence_is_kept,
+    only_who_may_be_told_is_told, silence_is_kept, the_end_goes_to_who_heard_the_beginning,
 };
 pub use object::{Acknowledgement, Moments, Object};
 pub use objects::initial_objects;
@@ -58,4 +60,4 @@ pub use state::GREATEST_BEFORE;
 pub use switches::Program;
 pub use telling::each_entry_is_told;
 pub use withheld::Withheld;
-pub use words::acknowledgement_text;
+pub use words::{acknowledgement_text, withheld_text};

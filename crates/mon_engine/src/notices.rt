@@ -144,7 +144,7 @@ impl State {
     }
 
     /// Appends a notice to the list of notices; `None` appends nothing. If memory runs out, the state is unchanged.
-    fn tell(&mut self, notice: Option<Notice>) -> Result<(), Memory>
+    pub fn tell(&mut self, notice: Option<Notice>) -> Result<(), Memory>
         ensures { OnOk result (self.new ≡ told self.old notice) }
     {
         match notice {
@@ -335,7 +335,7 @@ impl State {
     }
 
     /// Makes the RECOVERY notice of the object; `None` where the problem was soft, the notice may not go out, or it
-    /// reaches nobody.
+    /// reaches nobody, and with the option `recover_the_told`.
     #[tactic(auto, unfolding(crate::specs::Notices::recovery_notice))]
     fn recovery_notice(
         &self,
@@ -349,7 +349,7 @@ impl State {
         requires tellable { IsTellable inventory.now self.now }
         ensures { IfOk result (λ n. n ≡ recovery_notice inventory.now self.now found.entry.index hard_recovery found.entry.spec.now found.entry.state.now) }
     {
-        if !hard_recovery {
+        if !hard_recovery || inventory.recovers_the_told() {
             return Ok(None);
         }
         if !recovery_viable(&self.facts(inventory, found, Letter::R)) {

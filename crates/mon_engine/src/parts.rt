@@ -1,18 +1,21 @@
 //! The parts of a monitor: its state, field by field, for writing it and reading it back; and the test whether they fit
 //! an inventory. Nothing is changed and no memory is taken here.
-ghost use Rattle.std.specs.Prelude.{◌≡◌, ◌↔◌, ℕ, ◌+◌, ◌<◌, ◌≤◌, ◌*◌, All, length, IsTrue, IfSome, MatchOption};
+ghost use Rattle.std.specs.Prelude.{◌≡◌, ◌↔◌, ℕ, false, ◌+◌, ◌<◌, ◌≤◌, ◌*◌, All, length, IsTrue, IfSome, MatchOption};
 ghost use Rattle.cmd_types.specs.declared.limits.TheConstants.{GREATEST_NUMBER};
 ghost use Rattle.mon_inventory.specs.declared.limits.TheConstants.{MOST_OBJECTS};
 ghost use Rattle.mon_engine.specs.declared.state.TheConstants.{GREATEST_BEFORE};
+ghost use Rattle.mon_inventory.specs.Configuration.{recovers_the_told};
 ghost use Rattle.mon_inventory.specs.Facts.{IsInventory};
 ghost use Rattle.mon_checks.specs.States.{IsCodeOf};
 ghost use Rattle.mon_notes.specs.Comments.{IsCommentList};
 ghost use Rattle.mon_downtime.specs.Records.{AreRecords};
 ghost use Rattle.mon_engine.specs.declared.parts.ResumeFault.TheVariants.{Memory};
-ghost use Rattle.mon_engine.specs.Sound.{AreObjectStates, IsObjectState};
-ghost use Rattle.mon_engine.specs.Saved.{IsSaid, AreMoments, IsSaidObject, IsSaidComment, IsSaidDowntime, IsSaved, Fits};
-ghost use Rattle.mon_engine.specs.Misfits.{ObjectFits, CommentFits, DowntimeFits, IsFirstMisfit};
+ghost use Rattle.mon_engine.specs.Owed.{nobody};
+ghost use Rattle.mon_engine.specs.Sound.{AreObjectStates, IsObjectState, IsOwing};
+ghost use Rattle.mon_engine.specs.Saved.{IsSaid, AreMoments, IsSaidObject, IsSaidComment, IsSaidDowntime, IsSaved, Fits, IsOwedFit};
+ghost use Rattle.mon_engine.specs.Misfits.{ObjectFits, CommentFits, DowntimeFits, OwedFits, IsFirstMisfit};
 
+use crate::ends::Owed;
 use crate::object::{Moments, Object};
 use crate::state::GREATEST_BEFORE;
 use crate::switches::Program;
@@ -39,6 +42,7 @@ use std::marker::Model;
 ///     },
 ///     objects: Vec::new(alloc),
 ///     contacts: Vec::new(alloc),
+///     owed: Vec::new(alloc),
 ///     last_comment: 0,
 ///     comments: Vec::new(alloc),
 ///     downtimes: Vec::new(alloc),
@@ -60,6 +64,8 @@ pub struct Parts {
     pub objects: Vec<Object>,
     /// The switches of each contact, at its index in the inventory.
     pub contacts: Vec<ContactSwitch>,
+    /// Who is owed the end of each object's problem, at the object's index in the inventory.
+    pub owed: Vec<Owed>,
     /// The greatest id that a comment ever had; 0 where no comment was ever added.
     pub last_comment: u64,
     /// The comments that were not removed, in order of their ids.
@@ -81,6 +87,7 @@ impl Model for Parts {
       objects = p.objects.items;
       program = p.program;
       contacts = p.contacts.items;
+      owed = p.owed.items;
       rejections = [];
       notices = [];
       entries = 0;
@@ -107,6 +114,9 @@ pub enum Misfit {
     /// There are more downtimes than `before` entries can have scheduled.
     Downtimes,
     Downtime(usize),
+    /// Who is owed the end of the problem of the object at this index does not fit, is missing, or is of no object of the
+    /// inventory.
+    Owed(usize),
 }
 
 /// Whether a command can have carried this author and text: neither has a line feed, and the author no semicolon.
@@ -250,6 +260,54 @@ fn misfit_of_downtimes(objects: u16, downtimes: &[Downtime]) -> Option<usize>
     no_record
 }
 
+/// Whether who is owed an end fits the inventory after `before` entries.
+fn owed_fits(inventory: &Inventory, before: u64, owed: &Owed) -> bool
+    requires { before ≤ GREATEST_BEFORE }
+    ensures { IsTrue result ↔ IsOwedFit inventory.now before owed.now }
+{
+    let contacts = owed.contacts.as_slice();
+    are_below(inventory.contact_count(), contacts)
+        && owed.number <= GREATEST_NUMBER + 2 * before
+        && (inventory.recovers_the_told() || (contacts.is_empty() && owed.number == 0))
+}
+
+/// Whether each of these numbers is below `end`.
+fn are_below(end: u16, numbers: &[u16]) -> bool
+    ensures { IsTrue result ↔ All (λ n. n < end) numbers.now }
+{
+    for number in numbers {
+        if *number >= end {
+            return false;
+        }
+    }
+    true
+}
+
+/// The index of the first who is owed an end that does not fit, is missing, or is of no object; `None` where there is
+/// none.
+fn misfit_of_owed(inventory: &Inventory, before: u64, owed: &[Owed]) -> Option<usize>
+    requires { before ≤ GREATEST_BEFORE }
+    ensures all { MatchOption result
+        (IsOwing inventory.now owed.now × All (λ x. x.number ≤ GREATEST_NUMBER + 2 * before) owed.now
+        × (recovers_the_told inventory.now ≡ false → All (λ x. x ≡ nobody) owed.now))
+        (λ _. IsOwing inventory.now owed.now → All (λ x. x.number ≤ GREATEST_NUMBER + 2 * before) owed.now
+        → (recovers_the_told inventory.now ≡ false → All (λ x. x ≡ nobody) owed.now) → ⊥) }
+    ensures at { IfSome result (λ place. OwedFits inventory.now before owed.now place → ⊥) }
+    ensures earlier { (k : ℕ) → IfSome result (λ place. k < place) → OwedFits inventory.now before owed.now k }
+{
+    let count = inventory.objects().len();
+    let shorter = owed.len().min(count);
+    for place in 0..shorter {
+        if !owed_fits(inventory, before, &owed[place]) {
+            return Some(place);
+        }
+    }
+    if owed.len() != count {
+        return Some(shorter);
+    }
+    None
+}
+
 impl Parts {
     /// Tests part by part, in the order of [`Misfit`], and returns the first part that does not fit this inventory;
     /// `None` where all parts fit. Changes nothing and takes no memory.
@@ -281,7 +339,10 @@ impl Parts {
         if self.downtimes.len() as u64 > MOST_OBJECTS as u64 * self.before {
             return Some(Misfit::Downtimes);
         }
-        misfit_of_downtimes(count, &self.downtimes).map(Misfit::Downtime)
+        if let Some(place) = misfit_of_downtimes(count, &self.downtimes) {
+            return Some(Misfit::Downtime(place));
+        }
+        misfit_of_owed(inventory, self.before, &self.owed).map(Misfit::Owed)
     }
 }
 

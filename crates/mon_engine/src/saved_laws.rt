@@ -29,4 +29,5 @@ pub fn a_world_of_entries_is_saved()
 {
     mon_notes::comments_stay_in_order();
     mon_downtime::records_stay_records();
+    mon_downtime::law_of_the_clock();
 }

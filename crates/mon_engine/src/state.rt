@@ -14,6 +14,7 @@ ghost use Rattle.mon_engine.specs.Wakes.{IsQuiet};
 ghost use Rattle.mon_engine.specs.declared.state.TheConstants.{GREATEST_BEFORE};
 
 use crate::by_clock::unless_due;
+use crate::ends::{Owed, first_owed};
 use crate::notice::Notice;
 use crate::objects::Objects;
 use crate::outcome::{EngineFault, Outcome, Rejection};
@@ -42,6 +43,7 @@ pub struct State {
     pub objects: Objects,
     pub program: Program,
     pub contacts: Vec<ContactSwitch>,
+    pub owed: Vec<Owed>,
     pub rejections: Vec<Rejection>,
     pub notices: Vec<Notice>,
     pub entries: u32,
@@ -60,6 +62,7 @@ impl Model for State {
       objects = s.objects;
       program = s.program;
       contacts = s.contacts.items;
+      owed = s.owed.items;
       rejections = s.rejections.items;
       notices = s.notices.items;
       entries = s.entries;
@@ -78,6 +81,7 @@ impl State {
     {
         let objects = Objects::initial(alloc, inventory)?;
         let contacts = first_contacts(alloc, inventory)?;
+        let owed = first_owed(alloc, inventory)?;
         Ok(State {
             clock: 0,
             notes: Notes::new(alloc),
@@ -89,6 +93,7 @@ impl State {
                 passive_service: true,
             },
             contacts,
+            owed,
             rejections: Vec::new(alloc),
             notices: Vec::new(alloc),
             entries: 0,
@@ -110,6 +115,7 @@ impl State {
             objects: Objects::of(parts.objects),
             program: parts.program,
             contacts: parts.contacts,
+            owed: parts.owed,
             rejections: Vec::new(alloc),
             notices: Vec::new(alloc),
             entries: 0,
@@ -142,6 +148,7 @@ impl State {
             objects,
             program,
             contacts,
+            owed,
             rejections: _,
             notices: _,
             entries,
@@ -153,6 +160,7 @@ impl State {
             program,
             objects: objects.into_list(),
             contacts,
+            owed,
             last_comment: notes.last_id(),
             comments: notes.into_list(),
             downtimes: downtimes.into_list(),
@@ -189,8 +197,8 @@ impl State {
 
     /// Applies one entry and counts it. First the events due by the entry's time happen, then its act is done or its
     /// rejection listed, then the events that the act made due happen. Sets the clock to the entry's time, unless the
-    /// clock is later. With the option `tell_by_clock` each PROBLEM notice goes out then that may. If memory runs out, a
-    /// part of this may be done.
+    /// clock is later. Then what stands is told: with the option `recover_the_told` each RECOVERY notice that may go out,
+    /// and with the option `tell_by_clock` each PROBLEM notice. If memory runs out, a part of this may be done.
     #[tactic(auto, unfolding(crate::specs::Step::step, crate::specs::Step::acted))]
     pub fn step(
         &mut self,
@@ -212,6 +220,7 @@ impl State {
         // For the proof alone, at no cost when it runs: where nothing is due, only the clock changes.
         law_of_the_clock();
         let t = self.clock.max(entry.stamped.time());
+        let told = self.notices.len();
         let was_due = self.is_due(t);
         self.advance(alloc, inventory, t)?;
         let by_act = self.touched(inventory, entry, *quiet);
@@ -219,8 +228,9 @@ impl State {
         self.entries += 1;
         let is_due = self.is_due(t);
         self.advance(alloc, inventory, t)?;
-        let touched = unless_due(was_due, is_due, by_act);
-        self.tell_by_clock(alloc, inventory, touched, quiet)?;
+        let touched = unless_due(was_due | is_due, by_act);
+        self.tell_what_stands(alloc, inventory, touched, quiet)?;
+        self.note_owed(alloc, inventory, told)?;
         Ok(outcome)
     }
 }

@@ -63,7 +63,9 @@ pub fn word_text(word: Word) -> &'static [u8]
     }
 }
 
-/// The word of the status for what holds a PROBLEM notice back; empty for `None`.
+/// The word of the status for what holds a PROBLEM notice back (profile); empty for `None`.
+///
+/// See the example of [`put_line`].
 pub fn withheld_text(withheld: Option<Withheld>) -> &'static [u8]
     ensures { result.now ≡ withheld_text withheld }
 {

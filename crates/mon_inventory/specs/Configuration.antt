@@ -13,7 +13,7 @@ use Rattle.mon_inventory.specs.declared.records.Escalation.{Escalation}
 use Rattle.mon_inventory.specs.declared.records.OptionSpec.{OptionSpec}
 use Rattle.mon_inventory.specs.declared.records.Directives.{Directives}
 use Rattle.mon_inventory.specs.Texts.{items}
-use Rattle.mon_inventory.specs.Line.{Form, ContactForm, HostForm, ServiceForm, EscalationForm, OptionForm, SettleForm, DelayForm, VolatileForm, NoForm, form, is_empty, value_of, is_on, letters, passive_host_checks_are_soft, tell_by_clock, has_bad_form, has_bad_number, has_bad_option}
+use Rattle.mon_inventory.specs.Line.{Form, ContactForm, HostForm, ServiceForm, EscalationForm, OptionForm, SettleForm, DelayForm, VolatileForm, NoForm, form, is_empty, value_of, is_on, letters, passive_host_checks_are_soft, tell_by_clock, recover_the_told, has_bad_form, has_bad_number, has_bad_option}
 use Rattle.mon_inventory.specs.Lookups.{contact_of, host_of, service_of}
 
 -- contacts, objects, escalations and options, each under its index, from 0 in order of their lines; the directives of
@@ -46,6 +46,10 @@ passive_hosts_soft k = option_is_on k passive_host_checks_are_soft
 -- the option `tell_by_clock` is on
 abbrev pub tells_by_clock : Configuration → Bool
 tells_by_clock k = option_is_on k tell_by_clock
+
+-- the option `recover_the_told` is on
+abbrev pub recovers_the_told : Configuration → Bool
+recovers_the_told k = option_is_on k recover_the_told
 
 -- the object of these names, where it is there: the host itself where no service is named
 abbrev pub object_of : Configuration → (host service : List ℕ) → Option ℕ

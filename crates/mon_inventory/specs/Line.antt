@@ -125,9 +125,13 @@ passive_host_checks_are_soft = codes "passive_host_checks_are_soft"
 abbrev pub tell_by_clock : List ℕ
 tell_by_clock = codes "tell_by_clock"
 
+-- the name of the option by which the end of a problem goes to those who were notified of the problem
+abbrev pub recover_the_told : List ℕ
+recover_the_told = codes "recover_the_told"
+
 -- the options that are known
 abbrev pub is_option : List ℕ → Bool
-is_option name = bytes_eq name passive_host_checks_are_soft || bytes_eq name tell_by_clock
+is_option name = bytes_eq name passive_host_checks_are_soft || bytes_eq name tell_by_clock || bytes_eq name recover_the_told
 
 -- no known form, an empty name, a comma in a contact's name, an empty item of a comma list, or no known option
 abbrev pub has_bad_form : Form → Bool

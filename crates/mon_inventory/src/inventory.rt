@@ -5,7 +5,7 @@ ghost use Rattle.std.specs.List.{filter, filter_map};
 ghost use Rattle.mon_inventory.specs.Lists.{StandsAt, AreExactly};
 ghost use Rattle.cmd_types.specs.TextLines.{split_lines};
 ghost use Rattle.mon_inventory.specs.Lookups.{contact_of, host_of, service_of, services_of, escalations_of, IsContactNamed, IsOptionOn, IsHostNamed, IsServiceNamed, IsServiceOf, IsEscalationOf, is_escalation_of};
-ghost use Rattle.mon_inventory.specs.Configuration.{directives_at, inventory, option_is_on, passive_hosts_soft, tells_by_clock};
+ghost use Rattle.mon_inventory.specs.Configuration.{directives_at, inventory, option_is_on, passive_hosts_soft, recovers_the_told, tells_by_clock};
 ghost use Rattle.mon_inventory.specs.Facts.{IsInventory, IsObject, AreSeconds, AreDirectives};
 ghost use Rattle.mon_inventory.specs.Order.{AreInOrder, GrowsTo};
 ghost use Rattle.mon_inventory.specs.Read.{HasNoFault, IsFirstFault, Reads};
@@ -92,6 +92,7 @@ impl Inventory {
     /// escalation;HOST;DESCRIPTION or empty;FIRST;LAST;INTERVAL;OPTIONS;CONTACTS
     /// option;passive_host_checks_are_soft;0 or 1
     /// option;tell_by_clock;0 or 1
+    /// option;recover_the_told;0 or 1
     /// settle;SECONDS
     /// delay;HOST;DESCRIPTION or empty;SECONDS
     /// volatile;HOST;DESCRIPTION
@@ -133,6 +134,14 @@ impl Inventory {
         ensures { result ≡ tells_by_clock self.now }
     {
         self.is_on(b"tell_by_clock".as_slice())
+    }
+
+    /// Whether the end of a problem goes to those contacts that were notified of the problem (`recover_the_told`,
+    /// profile); false where no line sets the option, and then it goes to those whom the number and the letter r reach.
+    pub fn recovers_the_told(&self) -> bool
+        ensures { result ≡ recovers_the_told self.now }
+    {
+        self.is_on(b"recover_the_told".as_slice())
     }
 
     /// Whether the option of this name is on; false where no line sets it or there is no such option (profile). Takes

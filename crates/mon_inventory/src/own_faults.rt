@@ -13,7 +13,9 @@ use crate::letters::{OptionsOf, has_other_item};
 fn is_option(name: &[u8]) -> bool
     ensures { result ≡ is_option name.now }
 {
-    name == b"passive_host_checks_are_soft".as_slice() || name == b"tell_by_clock".as_slice()
+    name == b"passive_host_checks_are_soft".as_slice()
+        || name == b"tell_by_clock".as_slice()
+        || name == b"recover_the_told".as_slice()
 }
 
 impl Form<'_> {

@@ -48,10 +48,14 @@ all_escalations k object = filter (is_escalation_of object) k.escalations
 abbrev pub custom_escalates : Configuration → (object number code options : ℕ) → Bool
 custom_escalates k object number code options = escalates k object number (letter_of (is_service (slice_get k.objects object)) code) (not (is_broadcast options))
 
--- the contacts of the object and of all its escalations, or those of a notice that escalates or does not
+-- the contacts of the object and of all its escalations
+abbrev pub all_contacts : Configuration → (object : ℕ) → List ℕ
+all_contacts k object = own_contacts (slice_get k.objects object) ++ contacts_of (all_escalations k object)
+
+-- all these contacts, or those of a notice that escalates or does not
 abbrev pub custom_candidates_by : Configuration → (object number code options : ℕ) → (escalated : Bool) → List ℕ
 custom_candidates_by k object number code options escalated =
-    if is_broadcast options then own_contacts (slice_get k.objects object) ++ contacts_of (all_escalations k object)
+    if is_broadcast options then all_contacts k object
     else candidates_by k object number (letter_of (is_service (slice_get k.objects object)) code) escalated
 
 -- the switch of a contact for this kind of object is on

@@ -6,4 +6,5 @@ pub mod Escalations
 pub mod Interval
 pub mod Recipients
 pub mod Custom
+pub mod Ends
 pub mod Places

@@ -2,7 +2,7 @@
 //! command are the sum of three bits: 1 broadcast, 2 forced, 4 increment; other bits are not read.
 ghost use Rattle.std.specs.Prelude.{◌≡◌, ℕ, ◌<◌, ◌&&◌, ◌||◌, All, AllPairs, IfOk, length, slice_get};
 ghost use Rattle.mon_notify.specs.Objects.{is_service};
-ghost use Rattle.mon_notify.specs.Custom.{is_broadcast, is_forced, increments, custom_viable, custom_escalates, custom_candidates_by, is_on_at, custom_recipients};
+ghost use Rattle.mon_notify.specs.Custom.{all_contacts, is_broadcast, is_forced, increments, custom_viable, custom_escalates, custom_candidates_by, is_on_at, custom_recipients};
 ghost use Rattle.mon_notify.specs.Escalations.{has_contact};
 ghost use Rattle.mon_notify.specs.Letters.{letter_of};
 ghost use Rattle.mon_notify.specs.Places.{is_named};
@@ -101,6 +101,17 @@ fn topic_of(inventory: &Inventory, notice: CustomNotice) -> Topic
     }
 }
 
+/// The contacts of the object and of all its escalations, as marks.
+pub fn all_contacts(alloc: Global, inventory: &Inventory, object: u16) -> Result<Named, Memory>
+    requires { object < length inventory.now.objects }
+    ensures { IfOk result (λ n. (c : ℕ) → c < length inventory.now.contacts → is_named n c ≡ has_contact c (all_contacts inventory.now object)) }
+{
+    let mut named = Named::none(alloc, inventory.contact_count())?;
+    named.add(inventory.object(object).contacts.as_slice());
+    name_all(&mut named, inventory, object, &Selection::Any);
+    Ok(named)
+}
+
 /// Returns the candidates of a custom notice, as marks. For a broadcast they are the contacts of the object and of all
 /// its escalations; else the contacts of the escalations that match, or the object's own where none matches.
 fn custom_candidates(
@@ -113,10 +124,7 @@ fn custom_candidates(
         ≡ has_contact c (custom_candidates_by inventory.now notice.object notice.number notice.code notice.options (custom_escalates inventory.now notice.object notice.number notice.code notice.options))) }
 {
     if is_broadcast(notice.options) {
-        let mut named = Named::none(alloc, inventory.contact_count())?;
-        named.add(inventory.object(notice.object).contacts.as_slice());
-        name_all(&mut named, inventory, notice.object, &Selection::Any);
-        return Ok(named);
+        return all_contacts(alloc, inventory, notice.object);
     }
     let topic = topic_of(inventory, notice);
     candidates(alloc, inventory, topic, escalates(inventory, topic, true))

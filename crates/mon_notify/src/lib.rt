@@ -5,6 +5,7 @@
 
 mod contacts;
 mod custom;
+mod ends;
 mod escalations;
 mod facts;
 mod interval;
@@ -14,7 +15,10 @@ mod viable;
 
 pub use contacts::{ContactSwitch, recipients};
 pub use custom::{custom_recipients, custom_viable, increments};
+pub use ends::{BySwitch, by_switch, one_hears, owed_with, reaches_one, still_owed};
 pub use facts::Facts;
 pub use interval::interval_in_force;
 pub use letter::{Letter, has_letter, letter_of};
-pub use viable::{is_delayed, is_due, is_old, is_settled, problem_viable, recovery_viable};
+pub use viable::{
+    is_delayed, is_due, is_old, is_open, is_settled, problem_viable, recovery_viable,
+};

@@ -7,6 +7,8 @@ use crate::facts::Facts;
 
 /// Whether no switch and no downtime holds a notice back: notifications are on in the program and for the object, and
 /// no downtime of the object or of its host is active.
+///
+/// See the example of [`problem_viable`].
 pub fn is_open(facts: &Facts) -> bool
     ensures { result ≡ is_open facts.now }
 {

@@ -58,7 +58,7 @@ rest_is version inv text rest read parts w sound heading same gives h is = read_
 -- ---- the text that is read
 
 -- the text of a world, in version 1 that of an upgraded world, is a text of the state of this world
-pub is_state_text : (version : StateVersion) (inv : Configuration) (text : List ℕ) (w : World) → text ≡ text_of version inv w → (version ≡ One → upgrade w ≡ w) → IsStateText inv text w
+pub is_state_text : (version : StateVersion) (inv : Configuration) (text : List ℕ) (w : World) → text ≡ text_of version inv w → (version ≡ One → upgrade inv w ≡ w) → IsStateText inv text w
 is_state_text One inv text w is up = inr (is, up refl)
 is_state_text Two inv text w is up = inl is
 
@@ -88,6 +88,9 @@ goes_on_saved inv w h =
       clock = was.clock;
       states = was.states;
       contacts = was.contacts;
+      owing = was.owing;
+      ends = was.ends;
+      without = was.without;
       comments = was.comments;
       noted = was.noted;
       downtimes = was.downtimes;

@@ -8,15 +8,15 @@ use Rattle.mon_notes.specs.declared.comment.Comment.{Comment}
 use Rattle.mon_notes.specs.Comments.{id_before, ComesAfter}
 use Rattle.mon_inventory.specs.declared.records.ObjectSpec.{ObjectSpec}
 use Rattle.mon_inventory.specs.Configuration.{Configuration}
-use Rattle.mon_engine.specs.declared.object.Object.{Object}
+use Rattle.mon_engine.specs.declared.ends.Owed.{Owed}
 use Rattle.mon_engine.specs.declared.parts.Misfit.{Misfit}
 use Rattle.mon_engine.specs.declared.parts.Misfit.TheVariants as part
 use Rattle.mon_engine.specs.declared.parts.ResumeFault.{ResumeFault}
 use Rattle.mon_engine.specs.declared.parts.ResumeFault.TheVariants as fault
 use Rattle.mon_engine.specs.declared.state.TheConstants.{GREATEST_BEFORE}
 use Rattle.mon_engine.specs.World.{World}
-use Rattle.mon_engine.specs.Saved.{IsSaved}
-use Rattle.mon_engine.specs.Misfits.{FitsLine, IsFirstMisfit, NamesFirstMisfit}
+use Rattle.mon_engine.specs.Saved.{IsSaved, Fits, IsOwedFit}
+use Rattle.mon_engine.specs.Misfits.{FitsLine, FitsAt, IsFirstMisfit, NamesFirstMisfit}
 use Rattle.mon_state.specs.declared.fault.StateCause.TheVariants.{BadValue}
 use Rattle.mon_state.specs.declared.version.StateVersion.{StateVersion}
 use Rattle.mon_state.specs.Reading.{version_at, world_at}
@@ -42,21 +42,28 @@ ids_grow last cs (suc n) h all = by (ids_grow last cs n (omega (arith, h)) (λ k
 beyond : {X : Type 0} (P : X → Type 0) (xs : List X) (k : ℕ) → length xs ≤ k → IfSome (slice_get xs k) P
 beyond {X} P xs k h = subst (λ (o : Option X). IfSome o P) (sym (slice_get_past xs k h)) tt
 
-none_there : (before : ℕ) (o : Option Object) → FitsLine before None o → o ≡ None
-none_there before None w = refl
-none_there before (Some o) w = absurd w
+none_there : {A : Type 0} (fits : ObjectSpec → A → Type 0) (o : Option A) → FitsLine fits None o → o ≡ None
+none_there fits None w = refl
+none_there fits (Some x) w = absurd w
 
-few_objects : (inv : Configuration) (w : World) (place : ℕ) → IsFirstMisfit inv w (part.Object place) → place ≤ length inv.objects
-few_objects inv w place h = elim (cases_lt (length inv.objects) place) [
-  | inl far ↦ absurd (let n = length inv.objects in
-      let line : slice_get inv.objects n ≡ None = slice_get_past inv.objects n (omega arith) in
-      let fit : FitsLine w.before None (slice_get w.objects n) = subst (λ (s : Option ObjectSpec). FitsLine w.before s (slice_get w.objects n)) line (h.first (part.Object n) (inr (refl, far))) in
-      let short = past w.objects n (none_there w.before (slice_get w.objects n) fit) in
-      h.misfit
-      (subst (λ (s : Option ObjectSpec). FitsLine w.before s (slice_get w.objects place)) (sym (slice_get_past inv.objects place (omega (arith, far))))
-      (subst (λ (o : Option Object). FitsLine w.before None o) (sym (slice_get_past w.objects place (omega (arith, short, far)))) tt)))
+-- the first that does not fit its line of the inventory stands at most one past the lines
+few_lines : {A : Type 0} (fits : ObjectSpec → A → Type 0) (specs : List ObjectSpec) (known : List A) (place : ℕ) → (FitsAt fits specs known place → ⊥) → ((k : ℕ) → k < place → FitsAt fits specs known k) → place ≤ length specs
+few_lines {A} fits specs known place misfit earlier = elim (cases_lt (length specs) place) [
+  | inl far ↦ absurd (let n = length specs in
+      let line : slice_get specs n ≡ None = slice_get_past specs n (omega arith) in
+      let fit : FitsLine fits None (slice_get known n) = subst (λ (s : Option ObjectSpec). FitsLine fits s (slice_get known n)) line (earlier n far) in
+      let short = past known n (none_there fits (slice_get known n) fit) in
+      misfit
+      (subst (λ (s : Option ObjectSpec). FitsLine fits s (slice_get known place)) (sym (slice_get_past specs place (omega (arith, far))))
+      (subst (λ (o : Option A). FitsLine fits None o) (sym (slice_get_past known place (omega (arith, short, far)))) tt)))
   | inr near ↦ near
 ]
+
+few_objects : (inv : Configuration) (w : World) (place : ℕ) → IsFirstMisfit inv w (part.Object place) → place ≤ length inv.objects
+few_objects inv w place h = few_lines (Fits w.before) inv.objects w.objects place h.misfit (λ k low. h.first (part.Object k) (inr (refl, low)))
+
+few_owed : (inv : Configuration) (w : World) (place : ℕ) → IsFirstMisfit inv w (part.Owed place) → place ≤ length inv.objects
+few_owed inv w place h = few_lines (λ (spec : ObjectSpec) (x : Owed). IsOwedFit inv w.before x) inv.objects w.owed place h.misfit (λ k low. h.first (part.Owed k) (inr (refl, low)))
 
 -- before the comments the count of entries and the greatest id are in range
 few_ids : (w : World) (n : ℕ) → n ≤ length w.notes.comments → w.before ≤ GREATEST_BEFORE → w.notes.last_id ≤ w.before → ((k : ℕ) → k < n → ComesAfter w.notes.last_id w.notes.comments k) → n ≤ GREATEST_BEFORE
@@ -79,7 +86,7 @@ few_downtimes inv w place h = elim (cases_lt place (length w.downtimes)) [
 
 -- ---- the line
 
-line_fits : (inv : Configuration) (w : World) (found : Misfit) → length inv.objects < 2 ^ 16 → length inv.contacts < 2 ^ 16 → IsFirstMisfit inv w found → line_of_part (length inv.objects) (length inv.contacts) (length w.notes.comments) found < 2 ^ 64
+line_fits : (inv : Configuration) (w : World) (found : Misfit) → length inv.objects < 2 ^ 16 → length inv.contacts < 2 ^ 16 → IsFirstMisfit inv w found → line_of_part (length inv.objects) (length inv.contacts) (length w.notes.comments) (length w.downtimes) found < 2 ^ 64
 line_fits inv w part.Clock os cs h = omega arith
 line_fits inv w part.Before os cs h = omega arith
 line_fits inv w (part.Object place) os cs h = let few = few_objects inv w place h in omega (arith, few, os)
@@ -95,31 +102,46 @@ line_fits inv w (part.Downtime place) os cs h =
     let most = h.first part.Downtimes (inl (omega arith)) in
     let low = few_downtimes inv w place h in
     omega (arith, few, os, cs, room, most, low)
+line_fits inv w (part.Owed place) os cs h =
+    let room = h.first part.Before (inl (omega arith)) in
+    let few = all_comments w room (h.first part.LastComment (inl (omega arith))) (λ k. (h.first (part.Comment k) (inl (omega arith))).0) in
+    let most = h.first part.Downtimes (inl (omega arith)) in
+    let low = few_owed inv w place h in
+    omega (arith, few, os, cs, room, most, low)
 
-same_line : (a a' b b' n n' : ℕ) (found found' : Misfit) → a ≡ a' → b ≡ b' → n ≡ n' → found ≡ found' → line_of_part a b n found ≡ line_of_part a' b' n' found'
-same_line a a' b b' n n' found found' os cs ns is =
-    ap (λ k. line_of_part k b n found) os ∙ ap (λ k. line_of_part a' k n found) cs ∙ ap (λ k. line_of_part a' b' k found) ns ∙ ap (line_of_part a' b' n') is
+-- the counts of the state that was read
+pub record Counted : Type 0 where
+  pub objects : ℕ
+  pub contacts : ℕ
+  pub comments : ℕ
+  pub downtimes : ℕ
+
+-- the line of a part where there are so many
+abbrev pub counted_line : Counted → Misfit → ℕ
+counted_line n found = line_of_part n.objects n.contacts n.comments n.downtimes found
 
 -- what the reader knows of the fault of parts from which no monitor resumes, and its counts
-pub record IsCounted (inv : Configuration) (w : World) (f : ResumeFault) (found named : Misfit) (objects contacts comments : ℕ) : Type 0 where
+pub record IsCounted (inv : Configuration) (w : World) (f : ResumeFault) (found named : Misfit) (n : Counted) : Type 0 where
   pub is : f ≡ fault.Misfit found
   pub first : NamesFirstMisfit inv w f
-  pub objects_are : objects ≡ length inv.objects
-  pub contacts_are : contacts ≡ length inv.contacts
-  pub comments_are : comments ≡ length w.notes.comments
+  pub objects_are : n.objects ≡ length inv.objects
+  pub contacts_are : n.contacts ≡ length inv.contacts
+  pub comments_are : n.comments ≡ length w.notes.comments
+  pub downtimes_are : n.downtimes ≡ length w.downtimes
   pub named_is : named ≡ found
 
-counted_line : (inv : Configuration) (w : World) (f : ResumeFault) (found named : Misfit) (objects contacts comments : ℕ) → IsCounted inv w f found named objects contacts comments → line_of_part objects contacts comments named ≡ line_of_part (length inv.objects) (length inv.contacts) (length w.notes.comments) found
-counted_line inv w f found named objects contacts comments h = same_line objects _ contacts _ comments _ named found h.objects_are h.contacts_are h.comments_are h.named_is
+same_line : (inv : Configuration) (w : World) (f : ResumeFault) (found named : Misfit) (n : Counted) → IsCounted inv w f found named n → counted_line n named ≡ line_of_part (length inv.objects) (length inv.contacts) (length w.notes.comments) (length w.downtimes) found
+same_line inv w f found named n h =
+    λ i. line_of_part (h.objects_are i) (h.contacts_are i) (h.comments_are i) (h.downtimes_are i) (h.named_is i)
 
-counted_first : (inv : Configuration) (w : World) (f : ResumeFault) (found named : Misfit) (objects contacts comments : ℕ) → IsCounted inv w f found named objects contacts comments → IsFirstMisfit inv w found
-counted_first inv w f found named objects contacts comments h = subst (NamesFirstMisfit inv w) h.is h.first
+counted_first : (inv : Configuration) (w : World) (f : ResumeFault) (found named : Misfit) (n : Counted) → IsCounted inv w f found named n → IsFirstMisfit inv w found
+counted_first inv w f found named n h = subst (NamesFirstMisfit inv w) h.is h.first
 
-pub counted_fits : (inv : Configuration) (w : World) (f : ResumeFault) (found named : Misfit) (objects contacts comments : ℕ) → objects < 2 ^ 16 → contacts < 2 ^ 16 → IsCounted inv w f found named objects contacts comments → line_of_part objects contacts comments named < 2 ^ 64
-counted_fits inv w f found named objects contacts comments os cs h =
-    subst (λ k. k < 2 ^ 64) (sym (counted_line inv w f found named objects contacts comments h))
-    (line_fits inv w found (let many = h.objects_are in omega (arith, os, many)) (let many = h.contacts_are in omega (arith, cs, many)) (counted_first inv w f found named objects contacts comments h))
+pub counted_fits : (inv : Configuration) (w : World) (f : ResumeFault) (found named : Misfit) (n : Counted) → n.objects < 2 ^ 16 → n.contacts < 2 ^ 16 → IsCounted inv w f found named n → counted_line n named < 2 ^ 64
+counted_fits inv w f found named n os cs h =
+    subst (λ k. k < 2 ^ 64) (sym (same_line inv w f found named n h))
+    (line_fits inv w found (let many = h.objects_are in omega (arith, os, many)) (let many = h.contacts_are in omega (arith, cs, many)) (counted_first inv w f found named n h))
 
-pub misfit_fault : (version : StateVersion) (inv : Configuration) (text behind read : List ℕ) (w : World) (f : ResumeFault) (found named : Misfit) (objects contacts comments line : ℕ) → version_at text ≡ Ok (version, behind) → read ≡ behind → world_at version inv read ≡ Ok w → (IsSaved inv w → ⊥) → IsCounted inv w f found named objects contacts comments → line ≡ line_of_part objects contacts comments named → IsStateFault inv text (record { line = line; cause = BadValue })
-misfit_fault version inv text behind read w f found named objects contacts comments line heading same gives lost h at =
-    inr (inr (inr (inl (version, w, found, (behind, heading, ap (world_at version inv) (sym same) ∙ gives), lost, counted_first inv w f found named objects contacts comments h, refl, at ∙ counted_line inv w f found named objects contacts comments h))))
+pub misfit_fault : (version : StateVersion) (inv : Configuration) (text behind read : List ℕ) (w : World) (f : ResumeFault) (found named : Misfit) (n : Counted) (line : ℕ) → version_at text ≡ Ok (version, behind) → read ≡ behind → world_at version inv read ≡ Ok w → (IsSaved inv w → ⊥) → IsCounted inv w f found named n → line ≡ counted_line n named → IsStateFault inv text (record { line = line; cause = BadValue })
+misfit_fault version inv text behind read w f found named n line heading same gives lost h at =
+    inr (inr (inr (inl (version, w, found, (behind, heading, ap (world_at version inv) (sym same) ∙ gives), lost, counted_first inv w f found named n h, refl, at ∙ same_line inv w f found named n h))))

@@ -4,6 +4,7 @@ pub mod CursorLemmas
 pub mod LawLemmas
 pub mod VersionLemmas
 pub mod LineLemmas
+pub mod OwedLemmas
 pub mod WholeLemmas
 pub mod TextLemmas
 pub mod AnswerLemmas

@@ -6,7 +6,7 @@ use Rattle.std.proofs.lemmas.List.{flat_map_more, at_drop_more, at_drop_all, tak
 use Rattle.std.proofs.lemmas.List.FromFn.{map-range_with_len_more}
 use Rattle.std.proofs.lemmas.List.Folds.{flat_map-map}
 use Rattle.cmd_types.specs.Growth.{Grows}
-use Rattle.mon_engine.specs.Report.{each_index, fields_text}
+use Rattle.mon_engine.specs.Report.{each_index, fields_text, line}
 
 -- ---- a text that grows
 
@@ -51,11 +51,13 @@ pub on_ok : {T E : Type 0} (r : Result T E) (P Q : Type 0) → (P → Q) → OnO
 on_ok (Ok x) P Q f p = f p
 on_ok (Err e) P Q f p = tt
 
--- eleven parts that are appended in groups of four, one, one, two and three
-pub all_put : (out m1 m2 m3 m4 new a b c d e f g h i j k : List ℕ) → m1 ≡ out ++ a ++ b ++ c ++ d → m2 ≡ m1 ++ e → m3 ≡ m2 ++ f → m4 ≡ m3 ++ g ++ h → new ≡ m4 ++ i ++ j ++ k → new ≡ out ++ (a ++ b ++ c ++ d ++ e ++ f ++ g ++ h ++ i ++ j ++ k)
-all_put out m1 m2 m3 m4 new a b c d e f g h i j k one two three four five =
-    five
-    ∙ ap (λ (t : List ℕ). t ++ i ++ j ++ k) (four ∙ ap (λ (t : List ℕ). t ++ g ++ h) (three ∙ ap (λ (t : List ℕ). t ++ f) (two ∙ ap (λ (t : List ℕ). t ++ e) one)))
+-- twelve parts that are appended in groups of four, one, one, two, two, one and one
+pub all_put : (out m1 m2 m3 m4 m5 m6 new a b c d e f g h i j k l : List ℕ) → m1 ≡ out ++ a ++ b ++ c ++ d → m2 ≡ m1 ++ e → m3 ≡ m2 ++ f → m4 ≡ m3 ++ g ++ h → m5 ≡ m4 ++ i ++ j → m6 ≡ m5 ++ k → new ≡ m6 ++ l
+    → new ≡ out ++ (a ++ b ++ c ++ d ++ e ++ f ++ g ++ h ++ i ++ j ++ k ++ l)
+all_put out m1 m2 m3 m4 m5 m6 new a b c d e f g h i j k l one two three four five six seven =
+    seven
+    ∙ ap (λ (t : List ℕ). t ++ l)
+    (six ∙ ap (λ (t : List ℕ). t ++ k) (five ∙ ap (λ (t : List ℕ). t ++ i ++ j) (four ∙ ap (λ (t : List ℕ). t ++ g ++ h) (three ∙ ap (λ (t : List ℕ). t ++ f) (two ∙ ap (λ (t : List ℕ). t ++ e) one)))))
     ∙ simp append_assoc
 
 -- ---- fields
@@ -63,6 +65,21 @@ all_put out m1 m2 m3 m4 new a b c d e f g h i j k one two three four five =
 fields_joined : (a b : List (List ℕ)) → fields_text (a ++ b) ≡ fields_text a ++ fields_text b
 fields_joined [] b = refl
 fields_joined (field ∷ a) b = ap (λ (t : List ℕ). 59 ∷ field ++ t) (fields_joined a b) ∙ ap (λ (t : List ℕ). 59 ∷ t) (sym (append_assoc field (fields_text a) (fields_text b)))
+
+-- the fields of a list, one after another
+pub fields_of : {X : Type 0} (text : X → List ℕ) (xs : List X) → flat_map (λ (x : X). fields_text (text x ∷ [])) xs ≡ fields_text (map text xs)
+fields_of text [] = refl
+fields_of {X = X} text (x ∷ xs) = ap (λ (t : List ℕ). fields_text (text x ∷ []) ++ t) (fields_of text xs) ∙ sym (fields_joined (text x ∷ []) (map text xs))
+
+-- a line with its fields in three parts
+pub line_put : (out m1 m2 m3 new word : List ℕ) (a b c : List (List ℕ)) → m1 ≡ out ++ word ++ fields_text a → m2 ≡ m1 ++ fields_text b → m3 ≡ m2 ++ fields_text c → new ≡ m3 ++ 10 ∷ [] → new ≡ out ++ line word (a ++ (b ++ c))
+line_put out m1 m2 m3 new word a b c one two three four =
+    let all : fields_text (a ++ (b ++ c)) ≡ fields_text a ++ (fields_text b ++ fields_text c) = fields_joined a (b ++ c) ∙ ap (λ (t : List ℕ). fields_text a ++ t) (fields_joined b c) in
+    let same : out ++ word ++ fields_text a ++ fields_text b ++ fields_text c ++ 10 ∷ [] ≡ out ++ (word ++ (fields_text a ++ (fields_text b ++ fields_text c)) ++ 10 ∷ []) = simp append_assoc in
+    four
+    ∙ ap (λ (t : List ℕ). t ++ 10 ∷ []) (three ∙ ap (λ (t : List ℕ). t ++ fields_text c) (two ∙ ap (λ (t : List ℕ). t ++ fields_text b) one))
+    ∙ same
+    ∙ ap (λ (t : List ℕ). out ++ (word ++ t ++ 10 ∷ [])) (sym all)
 
 -- the fields of a line in four parts, and its line feed
 pub fields_put : (out m1 m2 m3 m4 new : List ℕ) (a b c d : List (List ℕ)) → m1 ≡ out ++ fields_text a → m2 ≡ m1 ++ fields_text b → m3 ≡ m2 ++ fields_text c → m4 ≡ m3 ++ fields_text d → new ≡ m4 ++ 10 ∷ [] → new ≡ out ++ (fields_text (a ++ b ++ c ++ d) ++ 10 ∷ [])

@@ -1,5 +1,5 @@
 -- The text of a saved world is read as the world from which a monitor resumes.
-use Rattle.std.proofs.Common.{◌≡◌, ℕ, ◌+◌, ◌*◌, ◌<◌, ◌≤◌, ◌^◌, Bool, true, false, List, [], ◌∷◌, ◌++◌, length, take, get_or, Option, Some, None, option_map, Result, Ok, Err, map, slice_get, append_assoc, refl, ap, sym, ◌∙◌, subst, arith}
+use Rattle.std.proofs.Common.{◌≡◌, ℕ, ◌+◌, ◌*◌, ◌<◌, ◌≤◌, ◌^◌, Bool, true, false, List, [], ◌∷◌, ◌++◌, length, take, get_or, Option, Some, None, option_map, Result, Ok, map, slice_get, append_assoc, refl, ap, sym, ◌∙◌, subst, arith}
 use Rattle.std.specs.Prelude.{codes, IfSome, All}
 use Rattle.std.specs.Fmt.{decimal}
 use Rattle.std.specs.List.{flat_map, AllByRecursion}
@@ -26,7 +26,7 @@ use Rattle.mon_engine.specs.Report.{line, contact_line, contact_line_of, clock_l
 use Rattle.mon_engine.specs.World.{World}
 use Rattle.mon_engine.specs.Sound.{ever, raised, AreObjectStates}
 use Rattle.mon_engine.specs.Saved.{IsSaidObject, IsSaidComment, IsSaidDowntime, IsSaved, going_on}
-use Rattle.mon_state.specs.State.{heading_line, object_line, object_line_of, comment_line, downtime_line, entries_line, comments_line, downtimes_line, end_line, line_count, text_of}
+use Rattle.mon_state.specs.State.{heading_line, object_line, object_line_of, comment_line, downtime_line, owed_line, owed_count, entries_line, comments_line, downtimes_line, end_line, line_count, text_of}
 use Rattle.mon_state.specs.declared.version.StateVersion.{StateVersion}
 use Rattle.mon_state.specs.declared.version.StateVersion.TheVariants.{One}
 use Rattle.mon_state.specs.Upgrade.{upgraded, upgraded_object, upgrade}
@@ -34,6 +34,7 @@ use Rattle.mon_state.specs.Reading.{Stuck, ◌>>=◌, expect_at, known_of, switc
 use Rattle.mon_state.proofs.LawLemmas.{line_behind, then, expect_gives, number_gives, count_gives, IsReadable}
 use Rattle.mon_state.proofs.VersionLemmas.{version_gives}
 use Rattle.mon_state.proofs.LineLemmas.{AreOfVersion, IsReadableObject, known_gives, switch_gives, program_gives, IsReadableComment, comment_gives, IsReadableDowntime, downtime_gives, each_gives, placed_gives}
+use Rattle.mon_state.proofs.OwedLemmas.{all_owed_gives}
 
 -- ---- the parts of a saved world can be read
 
@@ -140,26 +141,30 @@ comments_head last count rest = rw (line_behind (codes "comments") (decimal last
 -- ---- the whole
 
 -- the parts of a text, each with all parts after it
-downtimes_part : Configuration → World → List ℕ
-downtimes_part inv w = flat_map (downtime_line inv.objects) w.downtimes ++ end_line (line_count inv w)
+owed_part : StateVersion → Configuration → World → List ℕ
+owed_part version inv w = each_index (owed_line inv.objects w.owed) (owed_count version inv) ++ end_line (line_count version inv w)
 
-comments_part : Configuration → World → List ℕ
-comments_part inv w = flat_map (comment_line inv.objects) w.notes.comments ++ (downtimes_line w.downtimes ++ downtimes_part inv w)
+downtimes_part : StateVersion → Configuration → World → List ℕ
+downtimes_part version inv w = flat_map (downtime_line inv.objects) w.downtimes ++ owed_part version inv w
 
-contacts_part : Configuration → World → List ℕ
-contacts_part inv w = each_index (contact_line inv.contacts w.contacts) (length inv.contacts) ++ (comments_line w.notes ++ comments_part inv w)
+comments_part : StateVersion → Configuration → World → List ℕ
+comments_part version inv w = flat_map (comment_line inv.objects) w.notes.comments ++ (downtimes_line w.downtimes ++ downtimes_part version inv w)
+
+contacts_part : StateVersion → Configuration → World → List ℕ
+contacts_part version inv w = each_index (contact_line inv.contacts w.contacts) (length inv.contacts) ++ (comments_line w.notes ++ comments_part version inv w)
 
 objects_part : StateVersion → Configuration → World → List ℕ
-objects_part version inv w = each_index (object_line version inv.objects w.objects) (length inv.objects) ++ contacts_part inv w
+objects_part version inv w = each_index (object_line version inv.objects w.objects) (length inv.objects) ++ contacts_part version inv w
 
-joined : (a b c d e f g h i j k : List ℕ) → a ++ b ++ c ++ d ++ e ++ f ++ g ++ h ++ i ++ j ++ k ≡ a ++ (b ++ (c ++ (d ++ (e ++ (f ++ (g ++ (h ++ (i ++ (j ++ k)))))))))
-joined a b c d e f g h i j k = simp append_assoc
+joined : (a b c d e f g h i j k l : List ℕ) → a ++ b ++ c ++ d ++ e ++ f ++ g ++ h ++ i ++ j ++ k ++ l ≡ a ++ (b ++ (c ++ (d ++ (e ++ (f ++ (g ++ (h ++ (i ++ (j ++ (k ++ l))))))))))
+joined a b c d e f g h i j k l = simp append_assoc
 
 in_parts : (version : StateVersion) (inv : Configuration) (w : World) → text_of version inv w ≡ heading_line version ++ (clock_line w.clock ++ (entries_line (ever w) ++ (program_line w.program ++ objects_part version inv w)))
-unfolding text_of downtimes_part comments_part contacts_part objects_part
+unfolding text_of owed_part downtimes_part comments_part contacts_part objects_part
 in_parts version inv w =
     joined (heading_line version) (clock_line w.clock) (entries_line (ever w)) (program_line w.program) (each_index (object_line version inv.objects w.objects) (length inv.objects)) (each_index (contact_line inv.contacts w.contacts) (length inv.contacts))
-    (comments_line w.notes) (flat_map (comment_line inv.objects) w.notes.comments) (downtimes_line w.downtimes) (flat_map (downtime_line inv.objects) w.downtimes) (end_line (line_count inv w))
+    (comments_line w.notes) (flat_map (comment_line inv.objects) w.notes.comments) (downtimes_line w.downtimes) (flat_map (downtime_line inv.objects) w.downtimes)
+    (each_index (owed_line inv.objects w.owed) (owed_count version inv)) (end_line (line_count version inv w))
 
 -- the world that a text spells, with its heading
 pub state_at : Configuration → List ℕ → Result World Stuck
@@ -174,15 +179,15 @@ pub upgraded_more : (clock : ℕ) (os : List Object) (o : Object) → map (upgra
 upgraded_more clock os o all one = map-append (upgraded_object clock) os (o ∷ []) ∙ (λ i. all i ++ one i ∷ [])
 
 -- an object of an upgraded world has the moments of an upgrade
-of_upgrade : (w : World) (k : ℕ) (o : Object) → upgrade w ≡ w → slice_get w.objects k ≡ Some o → o.moments ≡ upgraded w.clock o.status
+of_upgrade : (inv : Configuration) (w : World) (k : ℕ) (o : Object) → upgrade inv w ≡ w → slice_get w.objects k ≡ Some o → o.moments ≡ upgraded w.clock o.status
 unfolding upgrade
-of_upgrade w k o is at =
+of_upgrade inv w k o is at =
     let there : Some (upgraded_object w.clock o) ≡ Some o =
     sym (slice_get-map (upgraded_object w.clock) w.objects k ∙ ap (option_map (upgraded_object w.clock)) at) ∙ ap (λ (v : World). slice_get v.objects k) is ∙ at in
     sym (ap (λ (x : Object). x.moments) (same_Some (upgraded_object w.clock o) o there))
 
-pub world_gives : (version : StateVersion) (inv : Configuration) (w : World) → IsInventory inv → IsSaved inv w → (version ≡ One → upgrade w ≡ w) → state_at inv (text_of version inv w) ≡ Ok (going_on w)
-unfolding state_at world_at downtimes_part comments_part contacts_part objects_part
+pub world_gives : (version : StateVersion) (inv : Configuration) (w : World) → IsInventory inv → IsSaved inv w → (version ≡ One → upgrade inv w ≡ w) → state_at inv (text_of version inv w) ≡ Ok (going_on w)
+unfolding state_at world_at owed_part downtimes_part comments_part contacts_part objects_part
 world_gives version inv w sound h up =
     let world = h.world in
     let room = h.room in
@@ -193,8 +198,8 @@ world_gives version inv w sound h up =
     let many : ever w ≤ GREATEST_NUMBER = omega (arith, room) in
     let objects = sound.few_objects in
     let comments = few_comments 0 w.notes.last_id w.notes.comments (omega arith) h.notes.ascending h.notes.given in
-    let downtimes = downtimes_line w.downtimes ++ downtimes_part inv w in
-    let notes = comments_line w.notes ++ comments_part inv w in
+    let downtimes = downtimes_line w.downtimes ++ downtimes_part version inv w in
+    let notes = comments_line w.notes ++ comments_part version inv w in
     let program = program_line w.program ++ objects_part version inv w in
     let entries = entries_line (ever w) ++ program in
     ap (state_at inv) (in_parts version inv w)
@@ -202,17 +207,18 @@ world_gives version inv w sound h up =
     (then _ (count_gives (codes "clock;") (codes "clock") w.clock entries refl (omega (arith, clock)))
     (then _ (count_gives (codes "entries;") (codes "entries") (ever w) program refl (omega (arith, many)))
     (then _ (program_gives w.program (objects_part version inv w))
-    (then _ (placed_gives (next_known version w.clock inv.objects) (object_line version inv.objects w.objects) w.objects (object_line_gives version w.clock inv (raised w) w.objects sound (omega (arith, many)) states h.said.objects (λ k o at one. of_upgrade w k o (up one) at)) (length inv.objects) 0 (contacts_part inv w) (let long = states.as_many in omega arith))
+    (then _ (placed_gives (next_known version w.clock inv.objects) (object_line version inv.objects w.objects) w.objects (object_line_gives version w.clock inv (raised w) w.objects sound (omega (arith, many)) states h.said.objects (λ k o at one. of_upgrade inv w k o (up one) at)) (length inv.objects) 0 (contacts_part version inv w) (let long = states.as_many in omega arith))
     (then _ (placed_gives (next_switch inv.contacts) (contact_line inv.contacts w.contacts) w.contacts (contact_line_gives inv.contacts w.contacts world.contacts) (length inv.contacts) 0 notes (let long = world.contacts in omega arith))
-    (then _ (comments_head w.notes.last_id (length w.notes.comments) (comments_part inv w))
-    (then _ (number_gives 59 w.notes.last_id (decimal (length w.notes.comments) ++ 10 ∷ comments_part inv w) refl (omega (arith, ids, many)))
-    (then _ (number_gives 10 (length w.notes.comments) (comments_part inv w) refl (omega (arith, comments, ids, many)))
+    (then _ (comments_head w.notes.last_id (length w.notes.comments) (comments_part version inv w))
+    (then _ (number_gives 59 w.notes.last_id (decimal (length w.notes.comments) ++ 10 ∷ comments_part version inv w) refl (omega (arith, ids, many)))
+    (then _ (number_gives 10 (length w.notes.comments) (comments_part version inv w) refl (omega (arith, comments, ids, many)))
     (then _ (each_gives (next_comment inv.objects) (comment_line inv.objects) (IsReadableComment (length inv.objects)) (λ done c rest q. comment_gives inv.objects c rest (omega (arith, objects)) q) [] w.notes.comments downtimes
     (readable_comments (length inv.objects) w.notes.last_id w.notes.comments (omega (arith, ids, many)) h.notes.given (recursion_from_All _ w.notes.comments world.noted) (recursion_from_All _ w.notes.comments h.said.comments)))
-    (then _ (count_gives (codes "downtimes;") (codes "downtimes") (length w.downtimes) (downtimes_part inv w) refl (omega (arith, few, many)))
-    (then _ (each_gives (next_downtime inv.objects) (downtime_line inv.objects) (IsReadableDowntime (length inv.objects)) (λ done d rest q. downtime_gives inv.objects d rest (omega (arith, objects)) q) [] w.downtimes (end_line (line_count inv w))
+    (then _ (count_gives (codes "downtimes;") (codes "downtimes") (length w.downtimes) (downtimes_part version inv w) refl (omega (arith, few, many)))
+    (then _ (each_gives (next_downtime inv.objects) (downtime_line inv.objects) (IsReadableDowntime (length inv.objects)) (λ done d rest q. downtime_gives inv.objects d rest (omega (arith, objects)) q) [] w.downtimes (owed_part version inv w)
     (readable_downtimes (length inv.objects) 0 (length w.downtimes) w.downtimes (omega (arith, few, many)) (omega arith) h.records (recursion_from_All _ w.downtimes world.known) (recursion_from_All _ w.downtimes h.said.downtimes)))
-    (ap (λ (rs : List Rejection). Ok (record (going_on w) { rejections = rs; notices = [] })) (sym h.no_rejections) ∙ ap (λ (ns : List Notice). Ok (record (going_on w) { notices = ns })) (sym h.no_notices)))))))))))))
+    (then _ (all_owed_gives version inv (ever w) (raised w) w (end_line (line_count version inv w)) sound (omega (arith, many)) world up)
+    (ap (λ (rs : List Rejection). Ok (record (going_on w) { rejections = rs; notices = [] })) (sym h.no_rejections) ∙ ap (λ (ns : List Notice). Ok (record (going_on w) { notices = ns })) (sym h.no_notices))))))))))))))
 
 -- the heading of a text names its version
 pub heading_is : (version : StateVersion) (inv : Configuration) (text : List ℕ) (w : World) → text ≡ text_of version inv w → (rest : List ℕ) × (version_at text ≡ Ok (version, rest))
@@ -222,7 +228,14 @@ heading_is version inv text w is =
 
 -- ---- resuming
 
+-- the text of a world where there ever were so many entries
+abbrev pub text_with : StateVersion → Configuration → World → (entries : ℕ) → List ℕ
+text_with version inv w entries =
+    heading_line version ++ clock_line w.clock ++ entries_line entries ++ program_line w.program ++ each_index (object_line version inv.objects w.objects) (length inv.objects)
+    ++ each_index (contact_line inv.contacts w.contacts) (length inv.contacts) ++ comments_line w.notes ++ flat_map (comment_line inv.objects) w.notes.comments
+    ++ downtimes_line w.downtimes ++ flat_map (downtime_line inv.objects) w.downtimes ++ each_index (owed_line inv.objects w.owed) (owed_count version inv) ++ end_line (line_count version inv w)
+
 -- the world from which a monitor resumes has the same text
 pub same_text : (version : StateVersion) (inv : Configuration) (w : World) → text_of version inv (going_on w) ≡ text_of version inv w
 unfolding text_of
-same_text version inv w = let same : (w.before + w.entries) + 0 ≡ w.before + w.entries = omega arith in rw same refl
+same_text version inv w = let same : ever w + 0 ≡ ever w = omega arith in ap (text_with version inv w) same

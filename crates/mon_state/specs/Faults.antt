@@ -52,23 +52,25 @@ Spells version inv text w = (behind : List ℕ) × (version_at text ≡ Ok (vers
 
 -- The line in which a part of a state stands. Lines 1 to 4 are the heading, the clock, the entries and the program.
 -- After them each object and each contact has a line; then come the greatest id and the number of the comments, each
--- comment, the number of the downtimes, and each downtime.
-abbrev pub line_of_part : (objects contacts comments : ℕ) → Misfit → ℕ
-line_of_part objects contacts comments part.Clock = 2
-line_of_part objects contacts comments part.Before = 3
-line_of_part objects contacts comments (part.Object place) = 5 + place
-line_of_part objects contacts comments part.Contacts = 5 + objects
-line_of_part objects contacts comments part.LastComment = 5 + objects + contacts
-line_of_part objects contacts comments (part.Comment place) = 6 + objects + contacts + place
-line_of_part objects contacts comments part.Downtimes = 6 + objects + contacts + comments
-line_of_part objects contacts comments (part.Downtime place) = 7 + objects + contacts + comments + place
+-- comment, the number of the downtimes, and each downtime; last, where the text says it, who is owed the end of the
+-- problem of each object.
+abbrev pub line_of_part : (objects contacts comments downtimes : ℕ) → Misfit → ℕ
+line_of_part objects contacts comments downtimes part.Clock = 2
+line_of_part objects contacts comments downtimes part.Before = 3
+line_of_part objects contacts comments downtimes (part.Object place) = 5 + place
+line_of_part objects contacts comments downtimes part.Contacts = 5 + objects
+line_of_part objects contacts comments downtimes part.LastComment = 5 + objects + contacts
+line_of_part objects contacts comments downtimes (part.Comment place) = 6 + objects + contacts + place
+line_of_part objects contacts comments downtimes part.Downtimes = 6 + objects + contacts + comments
+line_of_part objects contacts comments downtimes (part.Downtime place) = 7 + objects + contacts + comments + place
+line_of_part objects contacts comments downtimes (part.Owed place) = 7 + objects + contacts + comments + downtimes + place
 
 -- each field is the expected one, and the world that the fields spell does not fit the inventory: the fault is the
 -- first part that does not fit, with its line
 abbrev pub FailsToFit : Configuration → (text : List ℕ) → StateFault → Type 0
 FailsToFit inv text f =
     (version : StateVersion) × (w : World) × (found : Misfit) × Spells version inv text w × (IsSaved inv w → ⊥) × IsFirstMisfit inv w found
-    × (f.cause ≡ BadValue) × (f.line ≡ line_of_part (length inv.objects) (length inv.contacts) (length w.notes.comments) found)
+    × (f.cause ≡ BadValue) × (f.line ≡ line_of_part (length inv.objects) (length inv.contacts) (length w.notes.comments) (length w.downtimes) found)
 
 -- the text spells a world that would be written differently: the fault is the first line that differs
 abbrev pub IsWrittenOtherwise : Configuration → (text : List ℕ) → StateFault → Type 0

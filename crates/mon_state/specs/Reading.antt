@@ -1,7 +1,7 @@
 -- A text is read from left to right, field by field, up to the first faulty field. In a name `.._at` is a step at the
 -- front of a text, which returns the value that it read and the text after it, or the cause and the text from the
 -- faulty field on.
-use Rattle.std.specs.Prelude.{ℕ, Bool, true, false, List, [], ◌∷◌, ◌++◌, length, Option, Some, None, Result, Ok, Err, codes, nat_lt, ◌==◌, if◌then◌else◌, slice_get, zero, suc}
+use Rattle.std.specs.Prelude.{ℕ, Bool, true, false, List, [], ◌∷◌, ◌++◌, length, map, count_by, Option, Some, None, Result, Ok, Err, codes, nat_lt, ◌==◌, if◌then◌else◌, slice_get, zero, suc}
 use Rattle.std.specs.Option.{option_map}
 use Rattle.std.specs.Str.{bytes_eq}
 use Rattle.std.specs.Str.Parse.{digits_value}
@@ -14,7 +14,8 @@ use Rattle.mon_downtime.specs.declared.downtime.Fate.{Fate}
 use Rattle.mon_downtime.specs.declared.downtime.Fate.TheVariants.{Pending, Active, Over}
 use Rattle.mon_inventory.specs.declared.records.ObjectSpec.{ObjectSpec}
 use Rattle.mon_inventory.specs.declared.records.ContactSpec.{ContactSpec}
-use Rattle.mon_inventory.specs.Configuration.{Configuration}
+use Rattle.mon_inventory.specs.Configuration.{Configuration, recovers_the_told}
+use Rattle.mon_engine.specs.declared.ends.Owed.{Owed}
 use Rattle.mon_engine.specs.declared.object.Object.{Object}
 use Rattle.mon_engine.specs.declared.object.Moments.{Moments}
 use Rattle.mon_engine.specs.declared.object.Acknowledgement.{Acknowledgement}
@@ -23,6 +24,7 @@ use Rattle.mon_engine.specs.declared.switches.Program.{Program}
 use Rattle.mon_engine.specs.World.{World}
 use Rattle.mon_engine.specs.Report.{or_empty}
 use Rattle.mon_engine.specs.Objects.{is_service}
+use Rattle.mon_engine.specs.Owed.{initial_owed, presumed}
 use Rattle.mon_state.specs.declared.fault.StateCause.{StateCause}
 use Rattle.mon_state.specs.declared.fault.StateCause.TheVariants.{BadLine, BadValue, UnknownVersion}
 use Rattle.mon_state.specs.declared.lines.AuthorText.{AuthorText}
@@ -341,6 +343,42 @@ next_comment specs cs text = comment_at specs text
 abbrev pub next_downtime : List ObjectSpec → List Downtime → List ℕ → Result (Downtime × List ℕ) Stuck
 next_downtime specs ds text = downtime_at specs text
 
+-- ---- who is owed an end
+
+-- the index of a contact, whatever was read before
+abbrev pub next_index : List ℕ → List ℕ → Result (ℕ × List ℕ) Stuck
+next_index cs text = small_at 65535 59 text
+
+-- how many contacts the rest of a line has: each is followed by a semicolon
+unfoldable pub contacts_left : List ℕ → ℕ
+contacts_left text = count_by (λ b. b == 59) (before 10 text)
+
+-- the line of who is owed the end of an object's problem
+unfoldable pub owed_at : ObjectSpec → List ℕ → Result (Owed × List ℕ) Stuck
+owed_at spec text = do
+  text ← expect_at (codes "owed;") text
+  text ← names_at spec text
+  number ← number_at 59 text
+  contacts ← many_at next_index (contacts_left number.1) [] number.1
+  text ← expect_at (10 ∷ []) contacts.1
+  Ok (record { contacts = contacts.0; number = number.0 }, text)
+
+-- the line of this object, where there is one
+abbrev pub owed_of : Option ObjectSpec → List ℕ → Result (Owed × List ℕ) Stuck
+owed_of None text = Err (BadLine, text)
+owed_of (Some spec) text = owed_at spec text
+
+-- the line of the object after those that were read
+abbrev pub next_owed : List ObjectSpec → List Owed → List ℕ → Result (Owed × List ℕ) Stuck
+next_owed specs owed text = owed_of (slice_get specs (length owed)) text
+
+-- who is owed the end of each object's problem: with the option `recover_the_told` each object has a line; without it
+-- there is no line, and nobody is owed an end. Version 1 has no such line either, and there it is presumed from the
+-- objects.
+unfoldable pub all_owed_at : StateVersion → Configuration → List Object → List ℕ → Result (List Owed × List ℕ) Stuck
+all_owed_at One inv os text = Ok (presumed inv os, text)
+all_owed_at Two inv os text = if recovers_the_told inv then many_at (next_owed inv.objects) (length inv.objects) [] text else Ok (map initial_owed inv.objects, text)
+
 -- ---- the whole
 
 -- the version that was found, or the fault
@@ -386,6 +424,7 @@ world_at version inv text = do
   comments ← many_at (next_comment inv.objects) count.0 [] count.1
   count ← count_at (codes "downtimes;") comments.1
   downtimes ← many_at (next_downtime inv.objects) count.0 [] count.1
+  owed ← all_owed_at version inv objects.0 downtimes.1
   Ok (record {
     clock = clock.0;
     notes = record { comments = comments.0; last_id = last_id.0 };
@@ -393,6 +432,7 @@ world_at version inv text = do
     objects = objects.0;
     program = program.0;
     contacts = contacts.0;
+    owed = owed.0;
     rejections = [];
     notices = [];
     entries = 0;

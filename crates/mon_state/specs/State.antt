@@ -1,5 +1,5 @@
 -- The text of a world, in each version: one line for each fact, each field after a semicolon, as in the report.
-use Rattle.std.specs.Prelude.{ℕ, ◌+◌, List, [], ◌∷◌, ◌++◌, length, Option, Some, None, codes, slice_get}
+use Rattle.std.specs.Prelude.{ℕ, ◌+◌, Bool, false, if◌then◌else◌, List, [], ◌∷◌, ◌++◌, length, map, Option, Some, None, codes, slice_get}
 use Rattle.std.specs.List.{flat_map}
 use Rattle.std.specs.Fmt.{decimal}
 use Rattle.mon_notes.specs.declared.comment.Comment.{Comment}
@@ -9,7 +9,8 @@ use Rattle.mon_downtime.specs.declared.downtime.Fate.{Fate}
 use Rattle.mon_downtime.specs.declared.downtime.Fate.TheVariants.{Pending, Active, Over}
 use Rattle.mon_downtime.specs.Events.{active_since}
 use Rattle.mon_inventory.specs.declared.records.ObjectSpec.{ObjectSpec}
-use Rattle.mon_inventory.specs.Configuration.{Configuration}
+use Rattle.mon_inventory.specs.Configuration.{Configuration, recovers_the_told}
+use Rattle.mon_engine.specs.declared.ends.Owed.{Owed}
 use Rattle.mon_engine.specs.declared.object.Object.{Object}
 use Rattle.mon_engine.specs.declared.object.Moments.{Moments}
 use Rattle.mon_engine.specs.Words.{acknowledgement_text}
@@ -113,19 +114,44 @@ downtime_line_of d (Some spec) =
 unfoldable pub downtime_line : List ObjectSpec → Downtime → List ℕ
 downtime_line specs d = downtime_line_of d (slice_get specs d.object)
 
+-- HOST;SERVICE;NUMBER;CONTACT;..;CONTACT; with the index of each contact; the last field is empty, so that a semicolon
+-- follows each contact
+abbrev pub owed_fields : ObjectSpec → Owed → List (List ℕ)
+owed_fields spec x = spec.host ∷ or_empty spec.service ∷ decimal x.number ∷ (map decimal x.contacts ++ [] ∷ [])
+
+-- the line of who is owed the end of the problem of an object that is there
+abbrev pub owed_line_of : Option ObjectSpec → Option Owed → List ℕ
+owed_line_of None x = []
+owed_line_of (Some spec) None = []
+owed_line_of (Some spec) (Some x) = line (codes "owed") (owed_fields spec x)
+
+-- the line of who is owed the end of the problem of the object of this index
+unfoldable pub owed_line : List ObjectSpec → List Owed → ℕ → List ℕ
+owed_line specs owed object = owed_line_of (slice_get specs object) (slice_get owed object)
+
 -- the number of lines before this one
 abbrev pub end_line : ℕ → List ℕ
 end_line count = line (codes "end") (decimal count ∷ [])
 
 -- ---- the text
 
--- the lines of the heading, the clock, the entries and the program, those that head comments and downtimes, and one
--- for each object, contact, comment and downtime
-abbrev pub line_count : Configuration → World → ℕ
-line_count inv w = 6 + length inv.objects + length inv.contacts + length w.notes.comments + length w.downtimes
+-- a text of this version says who is owed the end of each object's problem: one of version 2 does, with the option
+-- `recover_the_told`
+abbrev pub tells_owed : StateVersion → Configuration → Bool
+tells_owed One inv = false
+tells_owed Two inv = recovers_the_told inv
+
+-- how many lines say it: one for each object, or none
+abbrev pub owed_count : StateVersion → Configuration → ℕ
+owed_count version inv = if tells_owed version inv then length inv.objects else 0
+
+-- the lines of the heading, the clock, the entries and the program, those that head comments and downtimes, one for
+-- each object, contact, comment and downtime, and those of who is owed an end
+abbrev pub line_count : StateVersion → Configuration → World → ℕ
+line_count version inv w = 6 + length inv.objects + length inv.contacts + length w.notes.comments + length w.downtimes + owed_count version inv
 
 -- heading, clock, entries, program; objects and contacts in the order of the inventory; comments and downtimes by
--- id; the end
+-- id; who is owed the end of each object's problem, in the order of the inventory; the end
 unfoldable pub text_of : StateVersion → Configuration → World → List ℕ
 text_of version inv w =
     heading_line version
@@ -138,7 +164,8 @@ text_of version inv w =
     ++ flat_map (comment_line inv.objects) w.notes.comments
     ++ downtimes_line w.downtimes
     ++ flat_map (downtime_line inv.objects) w.downtimes
-    ++ end_line (line_count inv w)
+    ++ each_index (owed_line inv.objects w.owed) (owed_count version inv)
+    ++ end_line (line_count version inv w)
 
 -- the text that is written
 abbrev pub state_text : Configuration → World → List ℕ

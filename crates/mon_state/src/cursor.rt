@@ -2,6 +2,7 @@
 //! last field that it read or tried to read: a fault is reported in the line of that field.
 ghost use Rattle.std.specs.Prelude.{◌≡◌, length};
 ghost use Rattle.std.specs.Option.{option_copied};
+ghost use Rattle.cmd_types.specs.Cuts.{before};
 ghost use Rattle.mon_state.specs.Reading.{field_at, word_at, rest_after, expect_at};
 ghost use Rattle.mon_state.specs.Cursors.{Gives};
 
@@ -48,6 +49,13 @@ impl<'a> Cursor<'a> {
         ensures { result ≡ length self.now.last }
     {
         self.last.len()
+    }
+
+    /// The unread bytes of this line, without the line feed that ends it.
+    pub fn line(&self) -> &'a [u8]
+        ensures { result.now ≡ before 10 self.now.rest }
+    {
+        cut(b'\n', self.rest).0
     }
 
     /// Reads the bytes before the next byte `end`, and moves after that byte. Where there is none, returns `BadLine`

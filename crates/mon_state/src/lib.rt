@@ -13,6 +13,7 @@ mod laws;
 mod lines;
 mod named_lines;
 mod number;
+mod owed_lines;
 mod places;
 mod reading;
 mod version;

@@ -21,7 +21,7 @@ use std::alloc::Global;
 
 /// Moves after the names of this object, with which the unread bytes have to begin.
 #[tactic(auto, unfolding(crate::specs::Reading::names_at))]
-fn read_names(cursor: &mut Cursor<'_>, spec: &ObjectSpec) -> Result<(), StateCause>
+pub fn read_names(cursor: &mut Cursor<'_>, spec: &ObjectSpec) -> Result<(), StateCause>
     ensures { Gives (λ _. cursor.new.rest) cursor.new.last result (names_at spec.now cursor.old.rest) }
 {
     cursor.name(spec.host.as_bytes())?;

@@ -35,20 +35,21 @@ pub fn difference(text: &[u8], other: &[u8]) -> usize
 /// The number of lines before the objects: heading, clock, entries and program (`specs/State.antt`).
 const HEAD: u64 = 4;
 
-/// How many objects, contacts and comments a state has.
+/// How many objects, contacts, comments and downtimes a state has.
 #[derive(Clone, Copy)]
 pub struct Counts {
     pub objects: u16,
     pub contacts: u16,
     pub comments: usize,
+    pub downtimes: usize,
 }
 
 impl Counts {
     /// The number, from 1, of the line with this part of such a state. Requires that this number fits into 64 bits, as
     /// it does for the first misfit of a state.
     pub fn line_of(self, part: Misfit) -> u64
-        requires { line_of_part self.objects self.contacts self.comments part < 2 ^ 64 }
-        ensures { result ≡ line_of_part self.objects self.contacts self.comments part }
+        requires { line_of_part self.objects self.contacts self.comments self.downtimes part < 2 ^ 64 }
+        ensures { result ≡ line_of_part self.objects self.contacts self.comments self.downtimes part }
     {
         let contacts = HEAD + 1 + u64::from(self.objects);
         let comments = contacts + u64::from(self.contacts);
@@ -61,6 +62,9 @@ impl Counts {
             Misfit::Comment(place) => comments + 1 + place as u64,
             Misfit::Downtimes => comments + 1 + self.comments as u64,
             Misfit::Downtime(place) => comments + 2 + self.comments as u64 + place as u64,
+            Misfit::Owed(place) => {
+                comments + 2 + self.comments as u64 + self.downtimes as u64 + place as u64
+            }
         }
     }
 }

@@ -16,6 +16,7 @@ ghost use Rattle.mon_state.specs.Cursors.{Gives};
 use crate::cursor::Cursor;
 use crate::fault::{StateCause, StateFault};
 use crate::lines::{read_comment, read_downtime, read_known, read_program, read_switch};
+use crate::owed_lines::read_all_owed;
 use crate::places::{Counts, difference, line_at};
 use crate::version::{StateVersion, read_heading};
 use crate::writing::put_state;
@@ -37,6 +38,7 @@ fn read_objects(
 ) -> Result<Vec<Object>, StateCause>
     ensures read { Gives (λ os. (os.items, cursor.new.rest)) cursor.new.last result (many_at (next_known version clock inventory.now.objects) (length inventory.now.objects) [] cursor.old.rest) }
     ensures first { version ≡ One → IfOk result (λ os. map (upgraded_object clock) os.items ≡ os.items) }
+    ensures as_many { IfOk result (λ os. length os.items ≡ length inventory.now.objects) }
 {
     let mut objects = Vec::new(alloc);
     for spec in inventory.objects() {
@@ -102,7 +104,7 @@ fn read_parts(
     inventory: &Inventory,
 ) -> Result<Parts, StateCause>
     ensures read { Gives (λ p. p) cursor.new.last result (world_at version inventory.now cursor.old.rest) }
-    ensures first { version ≡ One → IfOk result (λ p. upgrade p ≡ p) }
+    ensures first { version ≡ One → IfOk result (λ p. upgrade inventory.now p ≡ p) }
 {
     let clock = cursor.count(b"clock;")?;
     let before = cursor.count(b"entries;")?;
@@ -115,12 +117,14 @@ fn read_parts(
     let comments = read_comments(alloc, cursor, inventory, count)?;
     let count = cursor.count(b"downtimes;")?;
     let downtimes = read_downtimes(alloc, cursor, inventory, count)?;
+    let owed = read_all_owed(alloc, cursor, version, inventory, &objects)?;
     Ok(Parts {
         clock,
         before,
         program,
         objects,
         contacts,
+        owed,
         last_comment,
         comments,
         downtimes,
@@ -159,10 +163,12 @@ fn compare_with_text(
 
 /// Reads a state, as [`write_state`](crate::write_state) writes it, and makes the monitor of the inventory that resumes
 /// from it: it counts its entries from 0, and lists no rejection and no notice (profile). A state of version 1 is read
-/// too: its objects were never checked, and their last change was at its clock. Any other text is refused, with the
+/// too: its objects were never checked, and their last change was at its clock; with the option `recover_the_told` the
+/// ends of problems are owed as [`presumed_owed`](mon_engine::presumed_owed) says. Any other text is refused, with the
 /// line in which the first faulty field begins; else with the line of the first part that does not fit the inventory
 /// (see [`Misfit`](mon_engine::Misfit)); else with the first line that would be written differently. After an error the
-/// inventory is dropped. The memory that the call takes is linear in the length of the text.
+/// inventory is dropped. The memory that the call takes is linear in the length of the text, and for a text of version
+/// 1 also in the size of the inventory.
 ///
 /// # Errors
 /// The line, counted from 1, and the [`StateCause`]; it is [`StateCause::Memory`] if memory runs out, which happens
@@ -235,6 +241,7 @@ fn read_behind(
         objects,
         contacts,
         comments: parts.comments.len(),
+        downtimes: parts.downtimes.len(),
     };
     let monitor = match Monitor::resume(alloc, inventory, parts) {
         Ok(monitor) => monitor,

@@ -14,9 +14,11 @@ use cmd_types::cut;
 /// See the example of [`StateFault`].
 #[derive(Clone, Copy)]
 pub enum StateVersion {
-    /// Without the moments of objects; [`write_state`](crate::write_state) never writes this version.
+    /// Without the moments of objects, and without who is owed the end of a problem;
+    /// [`write_state`](crate::write_state) never writes this version.
     One,
-    /// With the moments of objects; [`write_state`](crate::write_state) writes this version.
+    /// With the moments of objects, and, where the inventory has the option `recover_the_told`, with who is owed the
+    /// end of each object's problem; [`write_state`](crate::write_state) writes this version.
     Two,
 }
 

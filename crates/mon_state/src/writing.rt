@@ -3,28 +3,19 @@
 ghost use Rattle.std.specs.Prelude.{◌≡◌, ◌++◌, ◌<◌, false, OnOk, OnErr, All, Some, length};
 ghost use Rattle.std.specs.List.{flat_map};
 ghost use Rattle.cmd_types.specs.Growth.{Grows};
-ghost use Rattle.mon_engine.specs.Report.{clock_line, program_line, or_empty};
+ghost use Rattle.mon_engine.specs.Report.{clock_line, program_line};
 ghost use Rattle.mon_downtime.specs.Events.{active_since};
 ghost use Rattle.mon_state.specs.State.{heading_line, entries_line, comments_line, comment_line_of, comment_line, fate_word, active_until, downtimes_line, downtime_line_of, downtime_line, end_line, line_count, text_of, state_text};
 
-use crate::appending::put;
+use crate::appending::{put, service_name};
 use crate::named_lines::{put_contacts, put_objects};
+use crate::owed_lines::{owed_count, put_all_owed};
 use crate::version::StateVersion;
 use cmd_types::Memory;
 use mon_downtime::{Downtime, Fate};
 use mon_engine::{Field, Monitor, Program};
 use mon_inventory::{Inventory, ObjectSpec};
 use mon_notes::Comment;
-
-/// The name of a service; empty for a host.
-fn service_name(spec: &ObjectSpec) -> &[u8]
-    ensures { result.now ≡ or_empty spec.now.service }
-{
-    match &spec.service {
-        None => b"",
-        Some(name) => name.as_bytes(),
-    }
-}
 
 /// Appends the line of a comment on the object with this line of the inventory.
 fn put_comment_on<'a>(
@@ -211,35 +202,33 @@ fn put_notes(
     put_comments(out, inventory, comments)
 }
 
-/// Appends the line `downtimes`, with the count, the lines of the downtimes, and the line `end`, with the number of
-/// lines before it.
+/// Appends the line `downtimes`, with the count, and the lines of the downtimes.
 fn put_schedule(
     out: &mut Vec<u8>,
     inventory: &Inventory,
     downtimes: &[Downtime],
-    count: u64,
 ) -> Result<(), Memory>
     requires { All (λ d. d.object < length inventory.now.objects) downtimes.now }
-    ensures ok { OnOk result (out.new.items ≡ out.old.items ++ downtimes_line downtimes.now ++ flat_map (downtime_line inventory.now.objects) downtimes.now ++ end_line count) }
+    ensures ok { OnOk result (out.new.items ≡ out.old.items ++ downtimes_line downtimes.now ++ flat_map (downtime_line inventory.now.objects) downtimes.now) }
     ensures grown { Grows out.old.items out.new.items }
 {
     put(out, b"downtimes", &[Field::Number(downtimes.len() as u64)])?;
-    put_downtimes(out, inventory, downtimes)?;
-    put(out, b"end", &[Field::Number(count)])
+    put_downtimes(out, inventory, downtimes)
 }
 
-/// The number of lines of the state before the line `end`.
-fn line_count(monitor: &Monitor) -> u64
+/// The number of lines of the state in this version before the line `end`.
+fn line_count(version: StateVersion, monitor: &Monitor) -> u64
     requires { monitor.now.broken ≡ false }
-    ensures { result ≡ line_count monitor.now.inventory monitor.now.world }
+    ensures { result ≡ line_count version monitor.now.inventory monitor.now.world }
 {
     // For the proof alone, at the cost of one getter: its contract bounds the comments and downtimes, so that the sum
     // does not overflow.
     let _entries = monitor.entries_ever();
     let inventory = monitor.inventory();
     let named = u64::from(inventory.object_count()) + u64::from(inventory.contact_count());
+    let owed = u64::from(owed_count(version, inventory));
     // The 6 other lines: `state`, `clock`, `entries`, `program`, `comments` and `downtimes`.
-    6 + named + monitor.comments().len() as u64 + monitor.downtimes().len() as u64
+    6 + named + monitor.comments().len() as u64 + monitor.downtimes().len() as u64 + owed
 }
 
 /// Appends all lines of the state in this version, from the heading to the line `end`.
@@ -251,12 +240,14 @@ pub fn put_state(out: &mut Vec<u8>, version: StateVersion, monitor: &Monitor) ->
 {
     let inventory = monitor.inventory();
     let entries = monitor.entries_ever();
-    let count = line_count(monitor);
+    let count = line_count(version, monitor);
     put_head(out, version, monitor.clock(), entries, monitor.program())?;
     put_objects(out, version, inventory, monitor.objects())?;
     put_contacts(out, inventory, monitor.contacts())?;
     put_notes(out, inventory, monitor.last_comment(), monitor.comments())?;
-    put_schedule(out, inventory, monitor.downtimes(), count)
+    put_schedule(out, inventory, monitor.downtimes())?;
+    put_all_owed(out, version, inventory, monitor.owed())?;
+    put(out, b"end", &[Field::Number(count)])
 }
 
 /// Appends the state of a monitor (profile). Requires that the monitor is not

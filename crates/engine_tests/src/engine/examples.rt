@@ -4,7 +4,7 @@ use cmd_ledger::{Ledger, is_clock};
 use cmd_types::{Command, Entry, Stamped, Text};
 use mon_engine::{
     Acknowledgement, EngineFault, Field, Misfit, Monitor, Outcome, Parts, Program, Reason,
-    ResumeFault, put_line, replay,
+    ResumeFault, first_owed, put_line, replay,
 };
 use mon_inventory::Inventory;
 use mon_state::{
@@ -31,6 +31,20 @@ fn monitor(rt: HostRuntime) -> Result<(), Fail> {
     };
     assert_eq!(rt; monitor.apply(alloc, &entry), Ok(Outcome::Applied));
     assert!(rt; monitor.apply(alloc, &entry) != Err(EngineFault::Broken));
+    Ok(())
+}
+
+#[test]
+fn owed(rt: HostRuntime) -> Result<(), Fail> {
+    let alloc = rt.alloc();
+    // INVENTORY: the text of an inventory with the host web
+    let inventory = Inventory::parse(alloc, INVENTORY)?;
+    let owed = first_owed(alloc, &inventory)?;
+    let [web] = owed.as_slice() else {
+        return Err(Fail::new("a host"));
+    };
+    assert!(rt; web.contacts.as_slice().is_empty());
+    assert_eq!(rt; web.number, 0);
     Ok(())
 }
 
@@ -178,6 +192,7 @@ fn resumed(rt: HostRuntime) -> Result<(), Fail> {
         },
         objects: Vec::new(alloc),
         contacts: Vec::new(alloc),
+        owed: Vec::new(alloc),
         last_comment: 0,
         comments: Vec::new(alloc),
         downtimes: Vec::new(alloc),

@@ -1,4 +1,6 @@
 //! The state of a monitor: the text that is written, the monitor that resumes from it, and the texts that are refused.
+mod owed;
+
 use super::{
     WEB, append_report, append_state, apply, compare, first_monitor, inventory_of, journaled,
 };
@@ -75,10 +77,10 @@ fn run(
     monitor.tell(alloc, &mut told)
 }
 
-/// The monitor after the entries `BEFORE`.
-fn before(rt: &impl Abort, alloc: Global) -> Result<Monitor, Memory> {
+/// The monitor of an inventory after the entries `BEFORE`.
+fn before(rt: &impl Abort, alloc: Global, inventory: &[&[u8]]) -> Result<Monitor, Memory> {
     let journal = journaled(rt, alloc, BEFORE)?;
-    let mut monitor = first_monitor(rt, alloc, WEB)?;
+    let mut monitor = first_monitor(rt, alloc, inventory)?;
     run(rt, alloc, &mut monitor, journal.entries())?;
     Ok(monitor)
 }
@@ -97,7 +99,7 @@ fn report_after(rt: &impl Abort, alloc: Global, mut monitor: Monitor) -> Result<
 #[test]
 fn state_is_written(rt: HostRuntime) -> Result<(), Fail> {
     let alloc = rt.alloc();
-    let monitor = before(&rt, alloc)?;
+    let monitor = before(&rt, alloc, WEB)?;
     let mut state = Vec::new(alloc);
     append_state(&rt, &monitor, &mut state)?;
     compare(&rt, "state", &state, STATE);
@@ -112,7 +114,7 @@ fn monitor_goes_on(rt: HostRuntime) -> Result<(), Fail> {
         return Err(Fail::new("the state is whole"));
     };
     assert_eq!(rt; monitor.applied(), 0);
-    let uninterrupted = before(&rt, alloc)?;
+    let uninterrupted = before(&rt, alloc, WEB)?;
     let found = report_after(&rt, alloc, monitor)?;
     let wanted = report_after(&rt, alloc, uninterrupted)?;
     compare(&rt, "report", &found, &wanted);
@@ -145,7 +147,7 @@ fn a_state_of_version_1_is_upgraded(rt: HostRuntime) -> Result<(), Fail> {
         since: Some(550),
     };
     assert_eq!(rt; moments(&monitor), Some((fine, problem)));
-    let uninterrupted = before(&rt, alloc)?;
+    let uninterrupted = before(&rt, alloc, WEB)?;
     let found = report_after(&rt, alloc, monitor)?;
     let wanted = report_after(&rt, alloc, uninterrupted)?;
     compare(&rt, "report", &found, &wanted);
@@ -436,8 +438,14 @@ fn replaced(alloc: Global, whole: &[u8], old: &[u8], new: &[u8]) -> Result<Vec<u
 }
 
 /// Compares the fault of a text with `wanted`.
-fn refuse(rt: &impl Abort, alloc: Global, text: &[u8], wanted: StateFault) -> Result<(), Fail> {
-    let inventory = inventory_of(rt, alloc, WEB)?;
+fn refuse(
+    rt: &impl Abort,
+    alloc: Global,
+    inventory: &[&[u8]],
+    text: &[u8],
+    wanted: StateFault,
+) -> Result<(), Fail> {
+    let inventory = inventory_of(rt, alloc, inventory)?;
     let Err(fault) = read_state(alloc, inventory, text) else {
         return Err(Fail::new("it is refused"));
     };
@@ -449,6 +457,7 @@ fn refuse(rt: &impl Abort, alloc: Global, text: &[u8], wanted: StateFault) -> Re
 fn refuse_rows(
     rt: &impl Abort,
     alloc: Global,
+    inventory: &[&[u8]],
     whole: &[u8],
     rows: &[StateRow],
 ) -> Result<(), Fail> {
@@ -458,7 +467,7 @@ fn refuse_rows(
             line: row.line,
             cause: row.cause,
         };
-        refuse(rt, alloc, &text, wanted)?;
+        refuse(rt, alloc, inventory, &text, wanted)?;
     }
     Ok(())
 }
@@ -466,13 +475,13 @@ fn refuse_rows(
 #[test]
 fn other_texts_are_refused(rt: HostRuntime) -> Result<(), Fail> {
     let alloc = rt.alloc();
-    refuse_rows(&rt, alloc, STATE, REFUSED)
+    refuse_rows(&rt, alloc, WEB, STATE, REFUSED)
 }
 
 #[test]
 fn other_texts_of_version_1_are_refused(rt: HostRuntime) -> Result<(), Fail> {
     let alloc = rt.alloc();
-    refuse_rows(&rt, alloc, FIRST_STATE, REFUSED_FIRST)
+    refuse_rows(&rt, alloc, WEB, FIRST_STATE, REFUSED_FIRST)
 }
 
 #[test]
@@ -485,7 +494,7 @@ fn the_first_of_two_faults_is_named(rt: HostRuntime) -> Result<(), Fail> {
             line: row.line,
             cause: row.cause,
         };
-        refuse(&rt, alloc, &text, wanted)?;
+        refuse(&rt, alloc, WEB, &text, wanted)?;
     }
     Ok(())
 }

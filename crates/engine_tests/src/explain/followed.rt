@@ -1,4 +1,5 @@
-//! Tests of the lines of a run that follows feeds: their texts, and their meanings.
+//! Tests of the lines of a run that follows feeds, and of those of its status on the moments of objects: their texts,
+//! and their meanings.
 use super::{LineMeaning, expect_meanings};
 use cmd_answer::{AbsentFeed, FollowLine};
 use cmd_explain::{KnownLine, known_line};
@@ -69,6 +70,85 @@ const ABSENT: &[LineMeaning] = &[
     ),
 ];
 
+/// The lines of the status on the moments of an object, with each word for what withholds a notice.
+const TIMES: &[LineMeaning] = &[
+    (
+        "times;1200;900;;;",
+        "nothing withholds a notice of the object now",
+    ),
+    (
+        "times;1200;900;900;1000;program",
+        "nobody is notified of the problem now: notifications are off",
+    ),
+    (
+        "times;1200;900;900;;switch",
+        "nobody is notified of the problem now: its notifications are off",
+    ),
+    (
+        "times;1200;900;900;;downtime",
+        "nobody is notified of the problem now: it or its host is in a downtime",
+    ),
+    (
+        "times;1200;900;900;;host",
+        "nobody is notified of the problem now: its host is not UP",
+    ),
+    (
+        "times;1200;900;900;;letter",
+        "nobody is notified of the problem now: its options lack the letter of its state",
+    ),
+    (
+        "times;1200;900;900;1000;acknowledged",
+        "nobody is notified of the problem now: it is acknowledged",
+    ),
+    (
+        "times;1200;1200;;;soft",
+        "nobody is notified of the problem now: its state is soft",
+    ),
+    (
+        "times;1200;900;900;1000;not_before",
+        "nobody is notified of the problem now: the time of a DELAY has not come",
+    ),
+    (
+        "times;1200;900;900;1000;interval",
+        "nobody is notified of the problem now: this state was notified, and the interval is 0 or not over",
+    ),
+    (
+        "times;1200;900;900;;delay",
+        "nobody is notified of the problem now: its first notification delay is not over",
+    ),
+    (
+        "times;1200;900;900;;settle",
+        "nobody is notified of the problem now: its host came back too short a time ago for a first notice",
+    ),
+    (
+        "times;1099511627775;1099511627775;1099511627775;1099511627775;nobody",
+        "nobody is notified of the problem now: no contact may get the notice",
+    ),
+    (
+        "times;;0;;;",
+        "nothing withholds a notice of the object now",
+    ),
+];
+
+/// Lines that look like those on the moments of an object, but that no status has.
+const FAULTY_TIMES: &[&str] = &[
+    "times;12x0;900;900;;soft",
+    "times;1200;900;900;x;soft",
+    "times;1200;900;900;;soft ",
+    "times;1200;900;900;;SOFT",
+    "times;1200;900;900;;soft;",
+    "times;1200;900;900;soft",
+    "times;1200;900;900;;;soft",
+    "times;1200;900;900;-1;soft",
+    "times; 1200;900;900;;soft",
+    "times;1200;900;900;;silent",
+    "times;1200;900;900;",
+    "times;",
+    "times",
+    " times;1200;900;;;",
+    "time;1200;900;;;",
+];
+
 /// Paths that have the words and the numbers of other lines.
 const PATHS: &[&str] = &[
     "",
@@ -101,6 +181,20 @@ fn lines_on_a_new_inventory(rt: HostRuntime) -> Result<(), Fail> {
 #[test]
 fn lines_on_feeds_that_cannot_be_read(rt: HostRuntime) -> Result<(), Fail> {
     expect_meanings(&rt, ABSENT)
+}
+
+#[test]
+fn lines_on_the_moments_of_an_object(rt: HostRuntime) -> Result<(), Fail> {
+    expect_meanings(&rt, TIMES)
+}
+
+#[test]
+fn faulty_lines_on_the_moments_of_an_object(rt: HostRuntime) -> Result<(), Fail> {
+    let alloc = rt.alloc();
+    for line in FAULTY_TIMES {
+        assert!(rt; known_line(alloc, line.as_bytes()) == Ok(None), "{line}");
+    }
+    Ok(())
 }
 
 #[test]

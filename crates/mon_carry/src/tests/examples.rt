@@ -10,7 +10,7 @@ const OLD: &[u8] = b"host;web;3;0;;\n";
 
 fn first_parts(alloc: Global) -> Result<Parts, Memory> {
     let objects = Vec::from_array(alloc, [super::object(alloc, false)])?;
-    Ok(super::parts_of(alloc, objects, Vec::new(alloc)))
+    super::parts_of(alloc, objects, Vec::new(alloc))
 }
 
 #[test]

@@ -27,7 +27,7 @@ fn four(alloc: Global) -> Result<Parts, Memory> {
         ],
     )?;
     let contacts = Vec::from_array(alloc, [SWITCHED, FIRST, SWITCHED])?;
-    let mut parts = parts_of(alloc, objects, contacts);
+    let mut parts = parts_of(alloc, objects, contacts)?;
     parts.comments.push(comment(alloc, 1, 1)?)?;
     parts.comments.push(comment(alloc, 2, 3)?)?;
     parts.downtimes.push(downtime(alloc, 1, 1, 0, ACTIVE)?)?;
@@ -86,7 +86,7 @@ fn under_attempts(
     };
     web.moments.since = if hard { Some(7) } else { None };
     let objects = Vec::from_array(alloc, [web])?;
-    let parts = parts_of(alloc, objects, Vec::new(alloc));
+    let parts = parts_of(alloc, objects, Vec::new(alloc))?;
     let Ok(parts) = carried(rt, alloc, b"host;web;4;0;;\n", parts, new) else {
         return Err(AllocError);
     };

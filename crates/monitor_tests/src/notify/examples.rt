@@ -2,8 +2,9 @@
 use crate::inventory::FIVE_LINES;
 use mon_inventory::Inventory;
 use mon_notify::{
-    ContactSwitch, Facts, Letter, custom_recipients, custom_viable, has_letter, increments,
-    interval_in_force, letter_of, problem_viable, recipients, recovery_viable,
+    ContactSwitch, Facts, Letter, by_switch, custom_recipients, custom_viable, has_letter,
+    increments, interval_in_force, letter_of, one_hears, owed_with, problem_viable, recipients,
+    recovery_viable, still_owed,
 };
 use std::test::*;
 
@@ -60,6 +61,49 @@ fn broadcast(rt: HostRuntime) -> Result<(), Fail> {
     // a broadcast, options 1, goes to the contacts of http and of its escalation
     let told = custom_recipients(alloc, &inventory, &[on, on], 1, 1, 2, 1)?;
     assert_eq!(rt; told.as_slice(), [0, 1].as_slice());
+    Ok(())
+}
+
+#[test]
+fn owed(rt: HostRuntime) -> Result<(), Fail> {
+    let alloc = rt.alloc();
+    // FIVE_LINES: two contacts, the host web, its service http and an escalation of http to bob
+    let inventory = Inventory::parse(alloc, FIVE_LINES)?;
+    assert!(rt; inventory.object_count() == 2 && inventory.contact_count() == 2);
+    assert!(rt; one_hears(&inventory, 1, &[0]));
+    let owed = owed_with(alloc, &inventory, 1, &[1], &[0])?;
+    assert_eq!(rt; owed.as_slice(), [0, 1].as_slice());
+    Ok(())
+}
+
+#[test]
+fn owed_by_switch(rt: HostRuntime) -> Result<(), Fail> {
+    let alloc = rt.alloc();
+    // FIVE_LINES: two contacts, the host web, its service http and an escalation of http to bob
+    let inventory = Inventory::parse(alloc, FIVE_LINES)?;
+    let on = ContactSwitch {
+        host: true,
+        service: true,
+    };
+    let off = ContactSwitch {
+        host: true,
+        service: false,
+    };
+    assert!(rt; inventory.object_count() == 2 && inventory.contact_count() == 2);
+    let owed = by_switch(alloc, &inventory, &[on, off], 1, &[0, 1])?;
+    assert_eq!(rt; owed.reached.as_slice(), [0].as_slice());
+    assert_eq!(rt; owed.missed.as_slice(), [1].as_slice());
+    Ok(())
+}
+
+#[test]
+fn owed_under_another_inventory(rt: HostRuntime) -> Result<(), Fail> {
+    let alloc = rt.alloc();
+    // FIVE_LINES: two contacts, the host web, its service http and an escalation of http to bob
+    let inventory = Inventory::parse(alloc, FIVE_LINES)?;
+    assert!(rt; inventory.object_count() == 2 && inventory.contact_count() == 2);
+    let owed = still_owed(alloc, &inventory, 1, &[1, 0])?;
+    assert_eq!(rt; owed.as_slice(), [0, 1].as_slice());
     Ok(())
 }
 

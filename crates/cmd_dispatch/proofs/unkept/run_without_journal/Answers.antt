@@ -52,3 +52,8 @@ returns-in-Ok-run_logged g c =
       bad_options = unkept_in_range (call c.in-Ok.monitor.inventory) _ report (MayRun (length c.args.readers.items) c.args.options) range ran.cause out ended c.unkept.ensures;
       fault = subst (λ (i : Configuration). IfErr out (λ e. (journal : List Entry) × HasFailed (call i) e.cause journal e.senders.items)) c.in-Ok.ensures.inventory (unkept_failed (call c.in-Ok.monitor.inventory) _ report ran.cause out ended c.unkept.ensures);
     }
+
+pub returns-clause-bad_options : goal.returns-clause-bad_options
+returns-clause-bad_options g c =
+    let range : MayRun (length c.args.readers.items) c.args.options = subst (λ (n : ℕ). MayRun n c.args.options) (omega (arith, c.len.ensures, c.args.readers.ok)) (c.may_run.ensures.0 c.if-not-may_run.false) in
+    (λ bad. absurd (let memory = sym c.unstarted-in-Err.ensures.0 ∙ bad in cc), λ none. absurd (none range))

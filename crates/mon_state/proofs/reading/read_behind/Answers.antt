@@ -38,31 +38,35 @@ pub returns-clause-text : goal.returns-clause-text
 returns-clause-text c =
     is_state_text c.args.version c.args.inventory c.args.text.now c.in-Ok-resume.monitor.world
     (c.in_ok-compare_with_text.ensures.ok ∙ ap (λ (k : Configuration). text_of c.args.version k c.in-Ok-resume.monitor.world) c.in-Ok-resume.ensures.inventory)
-    (λ one. subst (λ (w : World). upgrade w ≡ w) (sym c.in-Ok-resume.ensures.world) (c.in-Ok.ensures.first one))
+    (λ one. subst (λ (w : World). upgrade c.args.inventory w ≡ w) (sym c.in-Ok-resume.ensures.world) (c.in-Ok.ensures.first one))
 
 pub line_of-requires : goal.line_of-requires
 line_of-requires c =
     let objects = c.object_count-objects.type_inv in
     let contacts = c.contact_count-contacts.type_inv in
-    counted_fits c.args.inventory c.in-Ok.parts c.in-Err-Misfit.field-0 c.in-Err-Misfit.misfit _ c.object_count-objects.result c.contact_count-contacts.result c.len.result (omega (arith, objects)) (omega (arith, contacts)) (record {
+    counted_fits c.args.inventory c.in-Ok.parts c.in-Err-Misfit.field-0 c.in-Err-Misfit.misfit _ (record { objects = c.object_count-objects.result; contacts = c.contact_count-contacts.result; comments = c.len.result; downtimes = c.len-2.result }) (omega (arith, objects)) (omega (arith, contacts)) (record {
       is = c.in-Err-Misfit.field-0-is;
       first = c.in-Err-Misfit.ensures.first;
       objects_are = c.object_count-objects.ensures.count;
       contacts_are = c.contact_count-contacts.ensures.count;
       comments_are = search rules;
+      downtimes_are = search rules;
       named_is = c.in-Err-Misfit.misfit-is;
     })
 
 pub returns-in-Err-Misfit-clause-first : goal.returns-in-Err-Misfit-clause-first
 returns-in-Err-Misfit-clause-first c =
     let lost = c.in-Err-Misfit.ensures.misfit (λ e. (let no = c.in-Err-Misfit.field-0-is in absurd (cc))) in
-    misfit_fault c.args.version c.args.inventory c.args.text.now c.args.rest.now c.new-cursor.result.rest c.in-Ok.parts c.in-Err-Misfit.field-0 c.in-Err-Misfit.misfit _ c.object_count-objects.result c.contact_count-contacts.result c.len.result c.line_of.result c.requires (ap (λ (p : Place). p.rest) c.new-cursor.ensures) c.in-Ok.ensures.read lost
+    misfit_fault c.args.version c.args.inventory c.args.text.now c.args.rest.now c.new-cursor.result.rest c.in-Ok.parts c.in-Err-Misfit.field-0 c.in-Err-Misfit.misfit _
+    (record { objects = c.object_count-objects.result; contacts = c.contact_count-contacts.result; comments = c.len.result; downtimes = c.len-2.result })
+    c.line_of.result c.requires (ap (λ (p : Place). p.rest) c.new-cursor.ensures) c.in-Ok.ensures.read lost
     (record {
       is = c.in-Err-Misfit.field-0-is;
       first = c.in-Err-Misfit.ensures.first;
       objects_are = c.object_count-objects.ensures.count;
       contacts_are = c.contact_count-contacts.ensures.count;
       comments_are = search rules;
+      downtimes_are = search rules;
       named_is = c.in-Err-Misfit.misfit-is;
     })
     c.line_of.ensures
